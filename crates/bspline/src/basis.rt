@@ -1,0 +1,36 @@
+// The basis functions that are not zero on a knot span (The NURBS Book, A2.2). Knots and values stand in one buffer, the values later, and the differences of
+// knots are taken where they are used.
+ghost use mathlib.Core.Path.{_≡_};
+ghost use Prim.Native.Nat.{_+_, _<_, _≤_};
+ghost use lib.ListN.{length};
+ghost use Rattle.places.specs.Places.{laid};
+ghost use Rattle.geometry.specs.Doubles.{at};
+ghost use Rattle.bspline.specs.Basis.{leftOf, rightOf, row, basisAt};
+
+// The functions of degree j at u from those of degree j - 1, in place: the span's knot stands at `knot`, the values from `start` on.
+fn raise(work: &mut [f64], knot: usize, u: f64, j: usize, start: usize)
+    requires { ⌜ (j ≤ knot) × (knot + j < start) × (start + j < length (now work)) ⌝ }
+    ensures { λ _. ⌜ now (work .exit) ≡ laid start (j + 1)
+        (row (leftOf (now (work .entry)) knot u) (rightOf (now (work .entry)) knot u) (λ r. at (now (work .entry)) (start + r)) j) (now (work .entry)) ⌝ }
+{
+    let mut saved = 0.0;
+    for r in 0..j {
+        let a = u - work[knot + 1 - (j - r)];
+        let b = work[knot + (r + 1)] - u;
+        let temp = work[start + r] * (1.0 / (b + a));
+        work[start + r] = saved + b * temp;
+        saved = a * temp;
+    }
+    work[start + j] = saved;
+}
+
+// The basis functions of the degree that are not zero on the span that the knot at `knot` opens, at u, in the places from `start` on.
+pub fn basis_values(work: &mut [f64], knot: usize, degree: usize, u: f64, start: usize)
+    requires { ⌜ (degree ≤ knot) × (knot + degree < start) × (start + degree < length (now work)) ⌝ }
+    ensures { λ _. ⌜ now (work .exit) ≡ laid start (degree + 1) (at (basisAt (now (work .entry)) degree knot u)) (now (work .entry)) ⌝ }
+{
+    work[start] = 1.0;
+    for d in 0..degree {
+        raise(work, knot, u, d + 1, start);
+    }
+}

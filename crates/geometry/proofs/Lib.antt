@@ -1,0 +1,13 @@
+-- The laws of doubles and points. Other crates' proofs cite them as Rattle.geometry.proofs.NAME.
+pub mod DoubleLaws
+pub mod FloatOrder
+pub mod Folds
+pub mod PointLaws
+pub mod SortLaws
+pub mod Correct
+pub mod Examples
+pub mod Whole
+mod Steps
+pub mod Patterns
+mod Special
+mod WholePart

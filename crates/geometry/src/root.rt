@@ -1,0 +1,120 @@
+// The square root of an f64, correctly rounded, in whole numbers: a guess and two steps of Heron give the root of 54 binary digits, one division the other 26.
+
+ghost use mathlib.Core.Path.{_≡_};
+ghost use Prim.Native.Nat.{_+_, _-_, _*_, _/_, _^_, _≤_, _<_};
+ghost use Rattle.geometry.specs.Root.{sqrtOf};
+ghost use Rattle.geometry.specs.RootSteps.{RootOf, rootBits, patternUnits};
+
+// The whole part q of the root of a whole number n, and the rest n - q * q.
+pub struct Root {
+    pub q: u64,
+    pub rest: u64,
+}
+
+// A first guess at the root of m, within one part in 130: a straight line on each of the two
+// ranges of m. The proof needs its range alone.
+fn guess(m: u64) -> u64
+    requires { ⌜ m < 2 ^ 54 ⌝ }
+    ensures { λ r. ⌜ (2 ^ 25 ≤ r) × (r < 2 ^ 29) ⌝ }
+{
+    let t = m >> 27;
+    if m < 0x20_0000_0000_0000 {
+        ((t * 855) >> 10) + 39_605_534
+    } else {
+        ((t * 604) >> 10) + 56_010_000
+    }
+}
+
+// The mean of a guess g at the root of m and of m / g: at least the root, whatever the guess.
+fn heron(m: u64, g: u64) -> u64
+    requires { ⌜ (2 ^ 52 ≤ m) × (m < 2 ^ 54) × (2 ^ 25 ≤ g) × (g < 2 ^ 29) ⌝ }
+    ensures { λ r. ⌜ (m < (r + 1) * (r + 1)) × (2 ^ 25 ≤ r) × (r < 2 ^ 29) ⌝ }
+{
+    (g + m / g) / 2
+}
+
+// The root of m. Two steps from the guess are the root, or one more where m is just below a square.
+fn short_root(m: u64) -> Root
+    requires { ⌜ (2 ^ 52 ≤ m) × (m < 2 ^ 54) ⌝ }
+    ensures { λ r. ⌜ RootOf m (r .q) (r .rest) ⌝ }
+{
+    let mut q = heron(m, heron(m, guess(m)));
+    while m < q * q {
+        q -= 1;
+    }
+    Root { q, rest: m - q * q }
+}
+
+// From the root of n to that of n * 2^52, by one division.
+fn long_root(s: Root) -> Root
+    requires { ⌜ (s .rest ≤ 2 * s .q) × (2 ^ 26 ≤ s .q) × (s .q < 2 ^ 27) ⌝ }
+    ensures { λ r. ⌜ RootOf ((s .q * s .q + s .rest) * 2 ^ 52) (r .q) (r .rest) ⌝ }
+{
+    let a = s.rest * 0x400_0000;
+    let d = s.q * 2;
+    let u = a / d;
+    let v = a % d;
+    let q = s.q * 0x400_0000 + u;
+    let more = v * 0x400_0000;
+    let less = u * u;
+    if less <= more {
+        Root {
+            q,
+            rest: more - less,
+        }
+    } else {
+        Root {
+            q: q - 1,
+            rest: more + (2 * q - 1) - less,
+        }
+    }
+}
+
+// The bit pattern of the root of s * 2^(p + 52) units of 2^-2148. Where p is odd, s is doubled, so that
+// the power of two has a whole root.
+fn root_bits(s: u64, p: u64) -> u64
+    requires { ⌜ (2 ^ 52 ≤ s) × (s < 2 ^ 53) × (p ≤ 3067) ⌝ }
+    ensures { λ r. ⌜ r ≡ rootBits (s * 2 ^ (p + 52)) ⌝ }
+{
+    let r = long_root(short_root(s * (1 + p % 2)));
+    let down = p / 2 * 0x10_0000_0000_0000 + r.q;
+    if r.q < r.rest { down + 1 } else { down }
+}
+
+// The bit pattern of the root of the positive finite value whose bit pattern is b. A pattern below
+// 2^52 has no leading digit of its own, and is moved up to 53 digits.
+fn positive_bits(b: u64) -> u64
+    requires { ⌜ (0 < b) × (b < 0x7ff0_0000_0000_0000) ⌝ }
+    ensures { λ r. ⌜ r ≡ rootBits (patternUnits b * 2 ^ 1074) ⌝ }
+{
+    if b < 0x10_0000_0000_0000 {
+        let places = u64::leading_zeros(b) as u64 - 11;
+        root_bits(b << places, 1022 - places)
+    } else {
+        root_bits(
+            0x10_0000_0000_0000 + b % 0x10_0000_0000_0000,
+            (b >> 52) + 1021,
+        )
+    }
+}
+
+// The square root of x, rounded to the nearest f64.
+pub fn sqrt(x: f64) -> f64
+    ensures { λ r. ⌜ r ≡ sqrtOf x ⌝ }
+{
+    if x != x {
+        return x;
+    }
+    if x == 0.0 {
+        return x;
+    }
+    if x < 0.0 {
+        return 0.0 / 0.0;
+    }
+    let b = f64::to_bits(x);
+    if b < 0x7ff0_0000_0000_0000 {
+        f64::from_bits(positive_bits(b))
+    } else {
+        x
+    }
+}

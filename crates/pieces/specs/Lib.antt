@@ -1,0 +1,2 @@
+-- What a reading leaves in a lent point.
+pub mod Readings

@@ -1,0 +1,148 @@
+-- The laws of counting loops: by them a loop's proof goes. Assumes nothing.
+use mathlib.Core.Path.{_≡_, refl, sym, _∙_, ap, subst}
+use mathlib.Core.Bool.{Bool, true, false, cond}
+use Prim.Native.Nat.{ℕ, zero, suc, _+_, _-_, _<_, _≤_}
+use native.Mathlib.Nat.{zero-add, suc-add, add-zero, add-suc}
+use native.Mathlib.Numerals.{add-one}
+use native.Mathlib.Omega.{arith}
+use Rattle.places.specs.Loops.{times, each, down, Outcome, outcome, andThen, timesWhile, eachWhile}
+
+pub each-done : {S : Type 0} (a b : ℕ) (f : ℕ → S → S) (s : S) → b ≤ a → each a b f s ≡ s
+unfolding each times
+each-done a b f s h = let z : b - a ≡ 0 = omega arith in rw z
+
+pub each-step : {S : Type 0} (a b : ℕ) (f : ℕ → S → S) (s : S) → a < b → each a b f s ≡ each (a + 1) b f (f a s)
+unfolding each times
+each-step a b f s h = let z : b - a ≡ suc (b - (a + 1)) = omega arith in rw (z, add-one)
+
+pub down-done : {S : Type 0} (f : ℕ → S → S) (s : S) → down 0 f s ≡ s
+unfolding down
+down-done f s = refl
+
+-- k is the last number passed: the loop's own, less 1
+pub down-step : {S : Type 0} (k : ℕ) (f : ℕ → S → S) (s : S) → down (k + 1) f s ≡ down k f (f k s)
+unfolding down
+down-step k f s = rw add-one
+
+module _ {S : Type 0} (a b : ℕ) (f : ℕ → S → Outcome S) (s : S) where
+  pub while-done : b ≤ a → eachWhile a b f s ≡ outcome true s
+  unfolding eachWhile timesWhile
+  while-done h = let z : b - a ≡ 0 = omega arith in rw z
+
+  pub while-on : a < b → (t : S) → outcome true t ≡ f a s → eachWhile a b f s ≡ eachWhile (a + 1) b f t
+  unfolding eachWhile timesWhile andThen
+  while-on h t e = let z : b - a ≡ suc (b - (a + 1)) = omega arith in rw (z, add-one, ← e)
+
+  pub while-off : a < b → (t : S) → outcome false t ≡ f a s → eachWhile a b f s ≡ outcome false t
+  unfolding eachWhile timesWhile andThen
+  while-off h t e = let z : b - a ≡ suc (b - (a + 1)) = omega arith in rw (z, ← e)
+
+times-add : {S : Type 0} (m r a : ℕ) (f : ℕ → S → S) (s : S) → times (m + r) a f s ≡ times r (a + m) f (times m a f s)
+unfolding times
+times-add zero r a f s = rw (zero-add, add-zero)
+times-add (suc m) r a f s = rw (suc-add, add-suc) (times-add m r (suc a) f (f a s) ∙ rw suc-add)
+
+-- up to j, and from there on
+pub each-split : {S : Type 0} (a j b : ℕ) (f : ℕ → S → S) (s : S) → a ≤ j → j ≤ b → each a b f s ≡ each j b f (each a j f s)
+unfolding each
+each-split a j b f s h k =
+    let m : b - a ≡ (j - a) + (b - j) = omega arith in
+    let n : a + (j - a) ≡ j = omega arith in
+    rw m (times-add (j - a) (b - j) a f s ∙ rw n)
+
+-- the last turn
+pub each-last : {S : Type 0} (a b : ℕ) (f : ℕ → S → S) (s : S) → a ≤ b → each a (b + 1) f s ≡ f b (each a b f s)
+each-last a b f s h =
+    each-split a b (b + 1) f s h (omega arith)
+    ∙ each-step b (b + 1) f (each a b f s) (omega arith)
+    ∙ each-done (b + 1) (b + 1) f (f b (each a b f s)) (omega arith)
+
+-- what each turn leaves alone, the loop does: p of the state
+module _ {S T : Type 0} (p : S → T) (f : ℕ → S → S) where
+  times-same : (m a : ℕ) (s : S) → ((k : ℕ) (t : S) → a ≤ k → k < a + m → p (f k t) ≡ p t) → p (times m a f s) ≡ p s
+  unfolding times
+  times-same zero a s h = refl
+  times-same (suc m) a s h = times-same m (suc a) (f a s) (λ k t i j. h k t (omega arith) (omega arith)) ∙ h a s (omega arith) (omega arith)
+
+  pub each-same : (a b : ℕ) (s : S) → ((k : ℕ) (t : S) → a ≤ k → k < b → p (f k t) ≡ p t) → p (each a b f s) ≡ p s
+  unfolding each
+  each-same a b s h = times-same (b - a) a s (λ k t i j. h k t i (omega arith))
+
+-- two loops whose turns agree
+module _ {S : Type 0} (f g : ℕ → S → S) where
+  times-cong : (m a : ℕ) (s : S) → ((k : ℕ) (t : S) → a ≤ k → k < a + m → f k t ≡ g k t) → times m a f s ≡ times m a g s
+  unfolding times
+  times-cong zero a s h = refl
+  times-cong (suc m) a s h = times-cong m (suc a) (f a s) (λ k t i j. h k t (omega arith) (omega arith)) ∙ ap (times m (suc a) g) (h a s (omega arith) (omega arith))
+
+  pub each-cong : (a b : ℕ) (s : S) → ((k : ℕ) (t : S) → a ≤ k → k < b → f k t ≡ g k t) → each a b f s ≡ each a b g s
+  unfolding each
+  each-cong a b s h = times-cong (b - a) a s (λ k t i j. h k t i (omega arith))
+
+-- One loop seen through another, its numbers shifted and its state within a larger one: φ shows the small state x, of which P holds, in the large one.
+-- Where each turn of the large loop is the small loop's, so is the loop.
+module _ {S T : Type 0} (φ : T → S) (P : T → Type 0) (f : ℕ → S → S) (g : ℕ → T → T) where
+  times-shift : (m a b : ℕ) (t : T) → P t
+      → ((i j : ℕ) (x : T) → a ≤ i → i < a + m → i + b ≡ j + a → P x → (f i (φ x) ≡ φ (g j x)) × P (g j x))
+      → times m a f (φ t) ≡ φ (times m b g t)
+  unfolding times
+  times-shift zero a b t p h = refl
+  times-shift (suc m) a b t p h =
+      let s : (f a (φ t) ≡ φ (g b t)) × P (g b t) = h a b t (omega arith) (omega arith) (omega arith) p in
+      ap (times m (suc a) f) (s .0) ∙ times-shift m (suc a) (suc b) (g b t) (s .1) (λ i j x u v r q. h i j x (omega arith) (omega arith) (omega arith) q)
+
+  pub each-shift : (a e b c : ℕ) (t : T) → e - a ≡ c - b → P t
+      → ((i j : ℕ) (x : T) → a ≤ i → i < e → i + b ≡ j + a → P x → (f i (φ x) ≡ φ (g j x)) × P (g j x))
+      → each a e f (φ t) ≡ φ (each b c g t)
+  unfolding each
+  each-shift a e b c t z p h = rw (← z) (times-shift (e - a) a b t p (λ i j x u v r q. h i j x u (omega arith) r q))
+
+-- a choice seen through φ
+pub cond-shift : {S T : Type 0} (φ : T → S) (b : Bool) (x y : T) → cond b (φ x) (φ y) ≡ φ (cond b x y)
+cond-shift φ true x y = refl
+cond-shift φ false x y = refl
+
+-- a step that went through, and what came after it
+went : {S : Type 0} (v : Outcome S) (k : S → Outcome S) (t : S) → andThen v k ≡ outcome true t → (s : S) × (v ≡ outcome true s) × (k s ≡ outcome true t)
+unfolding andThen
+went (outcome true s) k t e = (s, refl, e)
+went (outcome false s) k t e = (s, cc, cc)
+
+then-went : {S : Type 0} (v : Outcome S) (s : S) (k : S → Outcome S) (t : S) → v ≡ outcome true s → k s ≡ outcome true t → andThen v k ≡ outcome true t
+unfolding andThen
+then-went v s k t e d = rw e d
+
+module _ {S : Type 0} (f : ℕ → S → Outcome S) where
+  -- a loop that went through: each turn did
+  times-went : (m r a : ℕ) (s t : S) → timesWhile (m + suc r) a f s ≡ outcome true t
+      → (u : S) × (v : S) × (timesWhile m a f s ≡ outcome true u) × (f (a + m) u ≡ outcome true v) × (timesWhile r (a + m + 1) f v ≡ outcome true t)
+  unfolding timesWhile andThen
+  times-went zero r a s t e =
+      let w = went (f a s) (timesWhile r (suc a) f) t (rw zero-add at e) in
+      (s, w .0, refl, rw add-zero (w .1), rw (add-zero, add-one) (w .2))
+  times-went (suc m) r a s t e =
+      let w = went (f a s) (timesWhile (m + suc r) (suc a) f) t (rw suc-add at e) in
+      let g = times-went m r (suc a) (w .0) t (w .2) in
+      let z : suc a + m ≡ a + suc m = omega arith in
+      (g .0, g .1, then-went (f a s) (w .0) (timesWhile m (suc a) f) (g .0) (w .1) (g .2), subst (λ (k : ℕ). f k (g .0) ≡ outcome true (g .1)) z (g .3), subst (λ (k : ℕ). timesWhile r (k + 1) f (g .1) ≡ outcome true t) z (g .4))
+
+  pub each-went : (i n : ℕ) (s t : S) → i < n → eachWhile 0 n f s ≡ outcome true t
+      → (u : S) × (v : S) × (eachWhile 0 i f s ≡ outcome true u) × (f i u ≡ outcome true v) × (eachWhile (i + 1) n f v ≡ outcome true t)
+  unfolding eachWhile
+  each-went i n s t h e =
+      let m : n - 0 ≡ i + suc (n - (i + 1)) = omega arith in
+      let z : i - 0 ≡ i = omega arith in
+      let g = times-went i (n - (i + 1)) 0 s t (rw m at e) in
+      (g .0, g .1, rw z (g .2), rw zero-add at (g .3), rw zero-add at (g .4))
+
+  module _ {T : Type 0} (p : S → T) where
+    times-while-same : (m a : ℕ) (s t : S) → timesWhile m a f s ≡ outcome true t → ((k : ℕ) (u v : S) → a ≤ k → k < a + m → f k u ≡ outcome true v → p v ≡ p u) → p t ≡ p s
+    unfolding timesWhile
+    times-while-same zero a s t e h = ap p (sym (cc))
+    times-while-same (suc m) a s t e h =
+        let w = went (f a s) (timesWhile m (suc a) f) t e in
+        times-while-same m (suc a) (w .0) t (w .2) (λ k u v i j q. h k u v (omega arith) (omega arith) q) ∙ h a s (w .0) (omega arith) (omega arith) (w .1)
+
+    pub while-same : (a b : ℕ) (s t : S) → eachWhile a b f s ≡ outcome true t → ((k : ℕ) (u v : S) → a ≤ k → k < b → f k u ≡ outcome true v → p v ≡ p u) → p t ≡ p s
+    unfolding eachWhile
+    while-same a b s t e h = times-while-same (b - a) a s t e (λ k u v i j q. h k u v i (omega arith) q)

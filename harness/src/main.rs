@@ -1,0 +1,39 @@
+//! Runs beside the Rust: this repository's functions and geomcore's, on the same inputs, compared bit for bit. One NaN equals any other.
+#![allow(dead_code, unused_imports)]
+
+include!(concat!(env!("OUT_DIR"), "/reference.rs"));
+
+pub mod tol {
+    pub const CONFUSION: f64 = crate::Tolerance::DEFAULT.confusion;
+}
+#[path = "shims/vector.rs"]
+pub mod vector;
+pub use point::{Point2D, Point3D};
+pub use tolerance::Tolerance;
+pub use vector::{Vector2D, Vector3D};
+
+mod ours;
+mod random;
+mod readings;
+mod roots;
+
+fn main() {
+    let words: Vec<String> = std::env::args().skip(1).collect();
+    let number = |i: usize, d: u64| words.get(i).map_or(d, |w| w.parse().expect("a number"));
+    let different = match words.first().map(String::as_str) {
+        Some("roots") => roots::compare(number(1, 10_000_000), number(2, 1)),
+        Some("readings") => readings::compare(number(1, 1_000_000), number(2, 1)),
+        Some("bench") => {
+            roots::bench();
+            readings::bench();
+            0
+        }
+        _ => {
+            eprintln!("beside roots COUNT SEED | readings COUNT SEED | bench");
+            std::process::exit(2)
+        }
+    };
+    if different > 0 {
+        std::process::exit(1);
+    }
+}

@@ -1,0 +1,1 @@
+//! A child of the published curves/fitting.rs: its private functions, under names that the comparison calls.
