@@ -1,16 +1,16 @@
 -- The laws of `laid`, `listOf`, `joined` and `someBelow`. Assumes nothing.
 use mathlib.Core.Path.{_≡_, refl, sym, _∙_, ap, subst}
-use mathlib.Core.Bool.{Bool, true, false, _||_}
-use mathlib.Core.List.{List, [], _∷_, _++_, append-assoc}
+use mathlib.Core.Bool.{Bool, true, false, cond, _||_}
+use mathlib.Core.List.{List, [], _∷_, _++_, append-assoc, append-nil}
 use mathlib.Core.Logic.{⊎-elim, _⊎_, inl, inr, _≢_}
 use Prim.Native.Nat.{ℕ, zero, suc, _+_, _-_, _*_, _<_, _≤_}
 use native.Mathlib.Nat.{suc-add, add-zero, add-suc, add-assoc, ne-of-lt, ne-of-gt, eq-or-lt-of-le, le-of-suc-le-suc, not-suc-le-zero, zero-add, zero-mul, suc-mul, mul-le-mul-right}
 use native.Mathlib.Numerals.{add-one}
-use lib.Dec.{leb}
-use borrow.Author.Tests.{leb-true, leb-false}
+use lib.Dec.{leb, eqb}
+use borrow.Author.Tests.{leb-true, leb-false, eq-eqb, ne-eqb}
 use native.Mathlib.Omega.{arith}
 use lib.ListN.{length, getD, set, take, drop, replicate, length-set, length-append, length-drop, length-replicate, getD-replicate, take-append-drop, List·getD-append}
-use lib.Seq.{getD-set-same, getD-set-other, set-comm, set-set, set-append-left, length-take-le, getD-at, getD-take, getD-drop, ext-getD, drop-cons, set-at, drop-at, take-at, drop-drop, take-all, append-snoc}
+use lib.Seq.{getD-set-same, getD-set-other, set-comm, set-set, set-append-left, length-take-le, getD-at, getD-take, getD-drop, ext-getD, drop-cons, set-at, drop-at, take-at, drop-drop, drop-length, drop-set-lt, take-all, append-snoc}
 use Rattle.places.specs.Loops.{each}
 use Rattle.places.proofs.LoopLaws.{each-done, each-last}
 use Rattle.places.specs.Regions.{part, splice}
@@ -86,6 +86,12 @@ module _ {A : Type 0} where
   laid-set a (suc n) f xs i v h =
       ap (λ (l : List A). set l (a + n) (f n)) (laid-set a n f xs i v (omega arith)) ∙ set-comm (laid a n f xs) i (a + n) v (f n) (ne-of-gt (omega arith))
 
+  -- two regions, one before the other, are laid in either order
+  pub laid-order : (a m b n : ℕ) (f g : ℕ → A) (xs : List A) → a + m ≤ b → laid a m f (laid b n g xs) ≡ laid b n g (laid a m f xs)
+  unfolding laid
+  laid-order a m b zero f g xs h = refl
+  laid-order a m b (suc n) f g xs h = laid-set a m f (laid b n g xs) (b + n) (g n) (omega arith) ∙ ap (λ (l : List A). set l (b + n) (g n)) (laid-order a m b n f g xs h)
+
   -- a store into a place that is laid later
   pub laid-over : (a n : ℕ) (f : ℕ → A) (xs : List A) (i : ℕ) (v : A) → i < n → laid a n f (set xs (a + i) v) ≡ laid a n f xs
   unfolding laid
@@ -98,6 +104,19 @@ module _ {A : Type 0} where
 
   pub laid0-over : (n : ℕ) (f : ℕ → A) (xs : List A) (i : ℕ) (v : A) → i < n → laid 0 n f (set xs i v) ≡ laid 0 n f xs
   laid0-over n f xs i v h = ap (λ (j : ℕ). laid 0 n f (set xs j v)) (sym (zero-add i)) ∙ laid-over 0 n f xs i v h
+
+  -- a store into a place that is laid
+  pub laid-put : (n : ℕ) (f : ℕ → A) (xs : List A) (i : ℕ) (v : A) → i < n → set (laid 0 n f xs) i v ≡ laid 0 n (λ k. cond (eqb k i) v (f k)) xs
+  unfolding laid
+  laid-put zero f xs i v h = absurd (not-suc-le-zero h)
+  laid-put (suc n) f xs i v h =
+      ⊎-elim
+      (λ (e : i ≡ n). rw (eq-eqb n i (sym e), e, zero-add)
+      (set-set (laid 0 n f xs) n (f n) v
+      ∙ ap (λ (l : List A). set l n v) (laid-same 0 n f (λ k. cond (eqb k n) v (f k)) xs (λ k l. rw (ne-eqb k n (ne-of-lt l))))))
+      (λ (lt : i < n). rw (zero-add, ne-eqb n i (ne-of-gt lt))
+      (set-comm (laid 0 n f xs) n i (f n) v (ne-of-gt lt) ∙ ap (λ (l : List A). set l n (f n)) (laid-put n f xs i v lt)))
+      (eq-or-lt-of-le (le-of-suc-le-suc h))
 
   -- what is laid last stands
   pub laid-laid : (a n : ℕ) (f g : ℕ → A) (xs : List A) → laid a n f (laid a n g xs) ≡ laid a n f xs
@@ -187,6 +206,28 @@ module _ {A : Type 0} where
       rw (zero-add, laid-front n f xs (omega arith), drop-cons xs n (f n) (omega arith))
       (set-at (listOf n f) (getD xs n (f n)) (drop (suc n) xs) (f n) n (length-listOf n f) ∙ sym (append-snoc (listOf n f) (f n) (drop (suc n) xs)))
 
+  -- a region all of which is laid
+  pub laid-region : (a n : ℕ) (f : ℕ → A) (xs : List A) → a + n ≤ length xs → laid a n f xs ≡ splice a (a + n) (listOf n f) xs
+  laid-region a n f xs h =
+      let w : a + n - a ≡ n = omega arith in
+      let l : length (take n (drop a xs)) ≡ n = length-take-le n (drop a xs) (omega (arith, length-drop a xs)) in
+      rw w
+      (sym (laid-part a n n f xs (omega arith) h)
+      ∙ ap (λ (ys : List A). take a xs ++ (ys ++ drop n (drop a xs))) (laid-front n f (take n (drop a xs)) (omega arith) ∙ ap (λ (ys : List A). listOf n f ++ ys) (ap (λ (m : ℕ). drop m (take n (drop a xs))) (sym l) ∙ drop-length (take n (drop a xs))) ∙ append-nil (listOf n f)))
+
+  -- the places behind those that are laid
+  pub drop-laid : (m n : ℕ) (f : ℕ → A) (xs : List A) → n ≤ m → drop m (laid 0 n f xs) ≡ drop m xs
+  unfolding laid
+  drop-laid m zero f xs h = refl
+  drop-laid m (suc n) f xs h = rw zero-add (drop-set-lt m (laid 0 n f xs) n (f n) (omega arith) ∙ drop-laid m n f xs (omega arith))
+
+  -- places laid from the second on, and a store into the first
+  pub laid-second : (m : ℕ) (f : ℕ → A) (xs : List A) (v : A) → m < length xs → set (laid 1 m f xs) 0 v ≡ (v ∷ listOf m f) ++ drop (m + 1) xs
+  laid-second m f [] v h = absurd (not-suc-le-zero h)
+  laid-second m f (x ∷ ys) v h =
+      rw add-one
+      (ap (λ (l : List A). set l 0 v) (laid-append (x ∷ []) ys 0 m f) ∙ ap (λ (l : List A). v ∷ l) (laid-front m f ys (omega arith)))
+
   -- all places of a list
   pub listOf-all : (n : ℕ) (xs : List A) (d : A) → length xs ≡ n → listOf n (λ k. getD xs k d) ≡ xs
   listOf-all n xs d e =
@@ -264,14 +305,6 @@ pub row-in : (k n w : ℕ) → k < n → k * w + w ≤ n * w
 row-in k n w h = subst (λ (m : ℕ). m ≤ n * w) (suc-mul k w) (mul-le-mul-right w h)
 
 module _ {A : Type 0} where
-  drop-whole : (w : ℕ) (l : List A) → length l ≡ w → drop w l ≡ []
-  drop-whole w [] e = rw (← e)
-  drop-whole w (x ∷ l) e = rw (← e) (drop-whole (length l) l refl)
-
-  append-none : (l : List A) → l ++ [] ≡ l
-  append-none [] = refl
-  append-none (x ∷ l) = ap (λ (y : List A). x ∷ y) (append-none l)
-
   pub joined-more : (k : ℕ) (f : ℕ → List A) → joined (k + 1) f ≡ joined k f ++ f k
   unfolding joined
   joined-more k f = rw add-one
@@ -285,7 +318,7 @@ module _ {A : Type 0} where
       let n : length (joined k f) ≡ k * w = length-joined k w f rows in
       let width : k * w + w - k * w ≡ w = omega arith in
       let p : length (part (k * w) (k * w + w) now) ≡ w = length-part (k * w) (k * w + w) now (omega arith) ∙ width in
-      let whole : ys ≡ f k = put ∙ ap (λ (l : List A). f k ++ l) (drop-whole w _ p) ∙ append-none (f k) in
+      let whole : ys ≡ f k = put ∙ ap (λ (l : List A). f k ++ l) (ap (λ (n : ℕ). drop n (part (k * w) (k * w + w) now)) (sym p) ∙ drop-length (part (k * w) (k * w + w) now)) ∙ append-nil (f k) in
       let front : take (k * w) now ≡ joined k f = ap (take (k * w)) e ∙ take-at (joined k f) (drop (k * w) old) (k * w) n in
       let back : drop (k * w) now ≡ drop (k * w) old = ap (drop (k * w)) e ∙ drop-at (joined k f) (drop (k * w) old) (k * w) n in
       let on : k * w + w ≡ (k + 1) * w = omega arith in

@@ -74,6 +74,21 @@ module _ {ℓ} {A : Type ℓ} (a e : ℕ) (ys l : List A) (h : a ≤ e) (k : e �
   splice-again zs =
       rw (take-at (take a l) (ys ++ drop (e - a) (drop a l)) a private-take, drop-at (take a l) (ys ++ drop (e - a) (drop a l)) a private-take, drop-at ys (drop (e - a) (drop a l)) (e - a) n)
 
+-- what stands before and behind a region that is replaced
+module _ {A : Type 0} (a e : ℕ) (ys l : List A) (h : a ≤ e) (k : e ≤ length l) (n : length ys ≡ e - a) where
+  pub take-splice : take a (splice a e ys l) ≡ take a l
+  take-splice = take-at (take a l) _ a (length-take-le a l (omega arith))
+
+  pub drop-splice : drop e (splice a e ys l) ≡ drop e l
+  drop-splice =
+      let w : a + (e - a) ≡ e = omega arith in
+      let t : drop a (splice a e ys l) ≡ ys ++ drop (e - a) (drop a l) = drop-at (take a l) _ a (length-take-le a l (omega arith)) in
+      rw w at (
+      sym (drop-drop (e - a) a (splice a e ys l))
+      ∙ ap (drop (e - a)) t
+      ∙ drop-at ys (drop (e - a) (drop a l)) (e - a) n
+      ∙ drop-drop (e - a) a l)
+
 -- a region that is put back as it is
 pub splice-part {ℓ} : {A : Type ℓ} (a e : ℕ) (l : List A) → splice a e (part a e l) l ≡ l
 splice-part a e l = sym (parted a e l)

@@ -1,0 +1,90 @@
+-- The lines of a ladder and of a grid: their points, and the parameters that depend on nothing else. Assumes nothing.
+use mathlib.Core.Path.{_≡_, ap}
+use mathlib.Core.Bool.{Bool, true, false, cond, _||_}
+use mathlib.Core.List.{List}
+use mathlib.Core.Option.{none, some}
+use Prim.Native.Nat.{ℕ, _+_, _-_, _*_, _^_, _<_, _≤_}
+use native.Mathlib.Omega.{arith}
+use lib.Dec.{eqb}
+use lib.ListN.{length}
+use lib.Ieee.{Float, le}
+use Rattle.places.specs.Places.{someBelow}
+use Rattle.places.proofs.LoopLaws.{each-cong}
+use Rattle.places.proofs.PlaceLaws.{listOf-same, row-in}
+use Rattle.geometry.specs.declared.Point.{Point}
+use Rattle.geometry.specs.Doubles.{_⊗_, _⊘_, nought, one, double, at}
+use Rattle.geometry.specs.Points.{pointAt}
+use Rattle.knots.specs.declared.Spacing.{Spacing}
+use Rattle.knots.specs.Parameters.{confusion, chords, stepSums, fromZeroToOne, pointParameters, Lines, addLine, addedLines, sharedParameters}
+use Rattle.knots.specs.Lines.{lineOf, linesOf}
+use Rattle.knots.specs.Calls.{HasLine, HasLines}
+use Rattle.knots.proofs.ParameterLaws.{length-zero-to-one, zero-to-one-ends}
+
+-- ---- only the points below the count matter
+
+chords-same : (n : ℕ) (f g : ℕ → Point) → ((k : ℕ) → k < n → f k ≡ g k) → chords n f ≡ chords n g
+unfolding chords
+chords-same n f g e = listOf-same (n - 1) _ _ (λ k h. rw (e (k + 1) (omega arith), e k (omega arith)))
+
+pub parameters-same : (v : Spacing) (n : ℕ) (f g : ℕ → Point) → ((k : ℕ) → k < n → f k ≡ g k) → pointParameters v n f ≡ pointParameters v n g
+unfolding pointParameters
+parameters-same v n f g e = rw (chords-same n f g e)
+
+line-same : (v : Spacing) (n : ℕ) (f g : ℕ → Point) (lines : Lines) → ((k : ℕ) → k < n → f k ≡ g k) → addLine v n f lines ≡ addLine v n g lines
+unfolding addLine
+line-same v n f g lines e = rw (chords-same n f g e)
+
+lines-same : (v : Spacing) (lines n : ℕ) (f g : ℕ → ℕ → Point) → ((r k : ℕ) → r < lines → k < n → f r k ≡ g r k) → addedLines v lines n f ≡ addedLines v lines n g
+unfolding addedLines
+lines-same v lines n f g e = each-cong _ _ 0 lines _ (λ r t h l. line-same v n (f r) (g r) t (λ k i. e r k l i))
+
+pub shared-same : (v : Spacing) (lines n : ℕ) (f g : ℕ → ℕ → Point) → ((r k : ℕ) → r < lines → k < n → f r k ≡ g r k) → sharedParameters v lines n f ≡ sharedParameters v lines n g
+unfolding sharedParameters
+shared-same v lines n f g e = rw (lines-same v lines n f g e)
+
+-- ---- a ladder, a grid's rows, a grid's columns
+
+pub ladder-same : (v : Spacing) (n : ℕ) (s : List Float) → pointParameters v n (lineOf s 0 1) ≡ pointParameters v n (pointAt s)
+ladder-same v n s = parameters-same v n _ _ (λ k h. let e : 0 + 1 * k ≡ k = omega arith in ap (pointAt s) e)
+
+pub rows-same : (v : Spacing) (rows cols : ℕ) (s : List Float) → sharedParameters v rows cols (linesOf s cols 1) ≡ sharedParameters v rows cols (λ i j. pointAt s (i * cols + j))
+rows-same v rows cols s = shared-same v rows cols _ _ (λ i j h k. let e : i * cols + 1 * j ≡ i * cols + j = omega arith in ap (pointAt s) e)
+
+pub columns-same : (v : Spacing) (rows cols : ℕ) (s : List Float) → sharedParameters v cols rows (linesOf s 1 cols) ≡ sharedParameters v cols rows (λ j i. pointAt s (i * cols + j))
+columns-same v rows cols s = shared-same v cols rows _ _ (λ j i h k. let e : j * 1 + cols * i ≡ i * cols + j = omega arith in ap (pointAt s) e)
+
+pub ladder-in : (n : ℕ) (s : List Float) → 2 ≤ n → 3 * n ≤ length s → HasLine s 0 1 n
+ladder-in n s h l = record { two = h; last = omega arith }
+
+module _ (rows cols : ℕ) (s : List Float) (r : 2 ≤ rows) (c : 2 ≤ cols) (l : 3 * (rows * cols) ≤ length s) where
+  pub rows-in : rows ≤ 2 ^ 53 → HasLines s rows cols cols 1
+  rows-in h = record { two = c; few = h; last = omega (arith, row-in (rows - 1) rows cols (omega arith)) }
+
+  pub columns-in : cols ≤ 2 ^ 53 → HasLines s cols 1 rows cols
+  columns-in h = record { two = r; few = h; last = omega (arith, row-in (rows - 1) rows cols (omega arith)) }
+
+-- ---- n parameters, the first 0 and the last 1
+
+abbrev pub FromZeroToOne : ℕ → List Float → Type 0
+FromZeroToOne n params = (length params ≡ n) × (at params 0 ≡ nought) × (at params (n - 1) ≡ one)
+
+ends : (n : ℕ) (g : ℕ → Float) (b : Bool) (params : List Float) → 2 ≤ n → cond b none (some (fromZeroToOne n g)) ≡ some params → FromZeroToOne n params
+ends n g true params h e = let z : _≡_ {A = ℕ} 0 1 = cc in absurd (omega arith)
+ends n g false params h e =
+    let same : fromZeroToOne n g ≡ params = cc in
+    let z = zero-to-one-ends n g h in
+    rw (← same) (length-zero-to-one n g, z .0, z .1)
+
+pub parameters-ends : (v : Spacing) (n : ℕ) (point : ℕ → Point) (params : List Float) → 2 ≤ n → pointParameters v n point ≡ some params → FromZeroToOne n params
+unfolding pointParameters
+parameters-ends v n point params h e =
+    let ds : List Float = chords n point in
+    let sums : List Float = stepSums v n ds in
+    ends n (λ k. at sums k ⊗ (one ⊘ at sums (n - 1))) (someBelow (n - 1) (λ k. le (at ds k) confusion)) params h e
+
+pub shared-ends : (v : Spacing) (lines n : ℕ) (point : ℕ → ℕ → Point) (params : List Float) → 2 ≤ n → sharedParameters v lines n point ≡ some params → FromZeroToOne n params
+unfolding sharedParameters
+shared-ends v lines n point params h e =
+    let added : Lines = addedLines v lines n point in
+    let g : ℕ → Float = λ k. at (added .sums) k ⊗ (one ⊘ double (added .used)) in
+    ends n g (eqb (added .used) 0 || someBelow (n - 1) (λ k. le (at (fromZeroToOne n g) (k + 1)) (at (fromZeroToOne n g) k))) params h e
