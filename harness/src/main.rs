@@ -12,7 +12,9 @@ pub use point::{Point2D, Point3D};
 pub use tolerance::Tolerance;
 pub use vector::{Vector2D, Vector3D};
 
+mod knots;
 mod ours;
+mod points;
 mod random;
 mod readings;
 mod roots;
@@ -23,13 +25,14 @@ fn main() {
     let different = match words.first().map(String::as_str) {
         Some("roots") => roots::compare(number(1, 10_000_000), number(2, 1)),
         Some("readings") => readings::compare(number(1, 1_000_000), number(2, 1)),
+        Some("knots") => knots::compare(number(1, 100_000), number(2, 1)),
         Some("bench") => {
             roots::bench();
             readings::bench();
             0
         }
         _ => {
-            eprintln!("beside roots COUNT SEED | readings COUNT SEED | bench");
+            eprintln!("beside roots COUNT SEED | readings COUNT SEED | knots COUNT SEED | bench");
             std::process::exit(2)
         }
     };

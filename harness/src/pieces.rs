@@ -1,1 +1,18 @@
 //! A child of the published curves/fitting.rs: its private functions, under names that the comparison calls.
+use super::*;
+
+pub fn point_parameters(points: &[Point3D], centripetal: bool) -> Option<Vec<f64>> {
+    super::point_parameters(points, spacing(centripetal)).ok()
+}
+
+pub fn shared_parameters(lines: usize, count: usize, point: impl Fn(usize, usize) -> Point3D, centripetal: bool) -> Option<Vec<f64>> {
+    super::shared_parameters(lines, count, point, spacing(centripetal)).ok()
+}
+
+pub fn compress_knots(flat: &[f64]) -> (Vec<f64>, Vec<u32>) {
+    super::compress_knots(flat)
+}
+
+pub fn spacing(centripetal: bool) -> PointParametrization {
+    if centripetal { PointParametrization::Centripetal } else { PointParametrization::Chordal }
+}

@@ -111,6 +111,10 @@ pub largest-start : (ds : List Float) → largest ds ≡ largestFrom nought ds
 unfolding largest
 largest-start ds = refl
 
+pub largest-none : (f : ℕ → Float) → largest (listOf 0 f) ≡ nought
+unfolding largest largestFrom listOf
+largest-none f = refl
+
 -- one value more at the end
 pub largest-more : (k : ℕ) (f : ℕ → Float) → largest (listOf (k + 1) f) ≡ larger (largest (listOf k f)) (f k)
 unfolding largest largestFrom

@@ -8,8 +8,15 @@ ghost use Rattle.geometry.specs.Order.{sorted};
 ghost use Rattle.geometry.specs.Points.{putPoint};
 ghost use Rattle.bspline.specs.Spans.{NeverFalls};
 ghost use Rattle.bspline.specs.Reader.{readerVerdict, readingOf, readingNumber, curvePoint, flatKnots};
+ghost use Rattle.places.specs.Regions.{part, splice};
+ghost use Rattle.knots.specs.Parameters.{pointParameters, sharedParameters};
+ghost use Rattle.knots.specs.Knots.{averagedKnots, approximationKnots};
+ghost use Rattle.knots.specs.Lines.{lineOf, linesOf};
+ghost use Rattle.knots.specs.Calls.{HasLine, HasLines, Found, KnotRegions, HasRoom, Compressed};
 ghost use Rattle.pieces.specs.Readings.{putReading};
+ghost use Rattle.pieces.specs.Spacings.{spacingOf};
 use bspline::Reading;
+use knots::Spacing;
 
 #[no_mangle]
 pub extern "C" fn pieces_sqrt(x: f64) -> f64
@@ -72,4 +79,82 @@ pub extern "C" fn pieces_curve_point(
 {
     let q = bspline::reader::curve_point(flat, degree, poles, u);
     geometry::put_point(out, 0, q);
+}
+
+fn spacing(centripetal: bool) -> Spacing
+    ensures { λ r. ⌜ r ≡ spacingOf centripetal ⌝ }
+{
+    if centripetal {
+        Spacing::Centripetal
+    } else {
+        Spacing::Chordal
+    }
+}
+
+#[no_mangle]
+pub extern "C" fn pieces_point_parameters(
+    points: &[f64],
+    start: usize,
+    stride: usize,
+    n: usize,
+    centripetal: bool,
+    out: &mut [f64],
+) -> bool
+    requires { ⌜ HasLine (now points) start stride n × (n ≤ length (now out)) ⌝ }
+    ensures { λ r. ⌜ Found (pointParameters (spacingOf centripetal) n (lineOf (now (points .entry)) start stride)) n n (now (out .entry)) (now (out .exit)) r ⌝ }
+{
+    knots::parameters::point_parameters(points, start, stride, n, spacing(centripetal), out)
+}
+
+#[no_mangle]
+pub extern "C" fn pieces_shared_parameters(
+    points: &[f64],
+    lines: usize,
+    pitch: usize,
+    n: usize,
+    stride: usize,
+    centripetal: bool,
+    out: &mut [f64],
+) -> bool
+    requires { ⌜ HasLines (now points) lines pitch n stride × (n + n ≤ length (now out)) ⌝ }
+    ensures { λ r. ⌜ Found (sharedParameters (spacingOf centripetal) lines n (linesOf (now (points .entry)) pitch stride)) n (n + n) (now (out .entry)) (now (out .exit)) r ⌝ }
+{
+    knots::parameters::shared_parameters(points, lines, pitch, n, stride, spacing(centripetal), out)
+}
+
+#[no_mangle]
+pub extern "C" fn pieces_averaged_knots(
+    work: &mut [f64],
+    params: usize,
+    n: usize,
+    degree: usize,
+    flat: usize,
+)
+    requires { ⌜ KnotRegions (now work) params n n degree flat ⌝ }
+    ensures { λ _. ⌜ now (work .exit) ≡ splice flat (flat + n + degree + 1) (averagedKnots (part params (params + n) (now (work .entry))) degree) (now (work .entry)) ⌝ }
+{
+    knots::clamped::averaged_knots(work, params, n, degree, flat);
+}
+
+#[no_mangle]
+pub extern "C" fn pieces_approximation_knots(
+    work: &mut [f64],
+    params: usize,
+    n: usize,
+    poles: usize,
+    degree: usize,
+    flat: usize,
+)
+    requires { ⌜ KnotRegions (now work) params n poles degree flat ⌝ }
+    ensures { λ _. ⌜ now (work .exit) ≡ splice flat (flat + poles + degree + 1) (approximationKnots (part params (params + n) (now (work .entry))) poles degree) (now (work .entry)) ⌝ }
+{
+    knots::clamped::approximation_knots(work, params, n, poles, degree, flat);
+}
+
+#[no_mangle]
+pub extern "C" fn pieces_compress_knots(flat: &[f64], knots: &mut [f64], mults: &mut [u32]) -> usize
+    requires { ⌜ HasRoom (now flat) (now knots) (now mults) ⌝ }
+    ensures { λ r. ⌜ Compressed (now (flat .entry)) (now (knots .entry)) (now (knots .exit)) (now (mults .entry)) (now (mults .exit)) r ⌝ }
+{
+    knots::runs::compress_knots(flat, knots, mults)
 }

@@ -68,6 +68,14 @@ module _ {S T : Type 0} (p : S → T) (f : ℕ → S → S) where
   unfolding each
   each-same a b s h = times-same (b - a) a s (λ k t i j. h k t i (omega arith))
 
+-- what only turn j and those before it touch: p of the state
+pub each-only : {S T : Type 0} (p : S → T) (f : ℕ → S → S) (a j b : ℕ) (s : S) → a ≤ j → j < b
+    → ((k : ℕ) (t : S) → j < k → k < b → p (f k t) ≡ p t)
+    → p (each a b f s) ≡ p (f j (each a j f s))
+each-only p f a j b s h k e =
+    ap p (each-split a j b f s h (omega arith) ∙ each-step j b f (each a j f s) k)
+    ∙ each-same p f (j + 1) b (f j (each a j f s)) (λ i t u v. e i t (omega arith) v)
+
 -- two loops whose turns agree
 module _ {S : Type 0} (f g : ℕ → S → S) where
   times-cong : (m a : ℕ) (s : S) → ((k : ℕ) (t : S) → a ≤ k → k < a + m → f k t ≡ g k t) → times m a f s ≡ times m a g s
