@@ -12,6 +12,7 @@ pub use point::{Point2D, Point3D};
 pub use tolerance::Tolerance;
 pub use vector::{Vector2D, Vector3D};
 
+mod bands;
 mod knots;
 mod ours;
 mod points;
@@ -26,13 +27,15 @@ fn main() {
         Some("roots") => roots::compare(number(1, 10_000_000), number(2, 1)),
         Some("readings") => readings::compare(number(1, 1_000_000), number(2, 1)),
         Some("knots") => knots::compare(number(1, 100_000), number(2, 1)),
+        Some("bands") => bands::compare(number(1, 20_000), number(2, 1)),
         Some("bench") => {
             roots::bench();
             readings::bench();
+            bands::bench();
             0
         }
         _ => {
-            eprintln!("beside roots COUNT SEED | readings COUNT SEED | knots COUNT SEED | bench");
+            eprintln!("beside roots COUNT SEED | readings COUNT SEED | knots COUNT SEED | bands COUNT SEED | bench");
             std::process::exit(2)
         }
     };

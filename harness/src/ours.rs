@@ -16,6 +16,10 @@ unsafe extern "C" {
     fn pieces_averaged_knots(work: *mut f64, len: usize, params: usize, n: usize, degree: usize, flat: usize);
     fn pieces_approximation_knots(work: *mut f64, len: usize, params: usize, n: usize, poles: usize, degree: usize, flat: usize);
     fn pieces_compress_knots(flat: *const f64, len: usize, knots: *mut f64, knots_len: usize, mults: *mut u32, mults_len: usize) -> usize;
+    fn pieces_factor_symmetric_band(lower: *mut f64, len: usize, h: usize, n: usize, relative: f64) -> bool;
+    fn pieces_substitute_symmetric_band(work: *mut f64, len: usize, l0: usize, l1: usize, p0: usize, p1: usize, h: usize, n: usize);
+    fn pieces_factor_band(band: *mut f64, len: usize, h: usize, n: usize);
+    fn pieces_substitute_band(work: *mut f64, len: usize, l0: usize, l1: usize, p0: usize, p1: usize, h: usize, n: usize);
     fn pieces_curve_point(flat: *const f64, flat_len: usize, degree: usize, poles: *const f64, poles_len: usize, u: f64, out: *mut f64, out_len: usize);
 }
 
@@ -103,4 +107,24 @@ pub fn compress_knots(flat: &[f64]) -> (Vec<f64>, Vec<u32>) {
     knots.truncate(count);
     mults.truncate(count);
     (knots, mults)
+}
+
+pub fn factor_symmetric_band(lower: &mut [f64], h: usize, n: usize, relative: f64) -> bool {
+    assert!(h <= 25 && n * (h + 1) <= lower.len());
+    unsafe { pieces_factor_symmetric_band(lower.as_mut_ptr(), lower.len(), h, n, relative) }
+}
+
+pub fn factor_band(band: &mut [f64], h: usize, n: usize) {
+    assert!(h <= 25 && n * (2 * h + 1) <= band.len());
+    unsafe { pieces_factor_band(band.as_mut_ptr(), band.len(), h, n) }
+}
+
+/// Solves in place, with the factors in the first `factors` places of `work` and the points in the 3 n after them.
+pub fn substitute(symmetric: bool, work: &mut [f64], factors: usize, h: usize, n: usize) {
+    let w = if symmetric { h + 1 } else { 2 * h + 1 };
+    assert!(h <= 25 && n * w <= factors && factors + 3 * n <= work.len());
+    let (a, len, end) = (work.as_mut_ptr(), work.len(), factors + 3 * n);
+    unsafe {
+        if symmetric { pieces_substitute_symmetric_band(a, len, 0, factors, factors, end, h, n) } else { pieces_substitute_band(a, len, 0, factors, factors, end, h, n) }
+    }
 }

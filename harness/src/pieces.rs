@@ -16,3 +16,19 @@ pub fn compress_knots(flat: &[f64]) -> (Vec<f64>, Vec<u32>) {
 pub fn spacing(centripetal: bool) -> PointParametrization {
     if centripetal { PointParametrization::Centripetal } else { PointParametrization::Chordal }
 }
+
+pub fn factor_symmetric_band(lower: &mut [f64], h: usize, relative: f64) -> bool {
+    super::factor_symmetric_band(lower, h, relative)
+}
+
+pub fn substitute_symmetric_band(lower: &[f64], h: usize, rhs: &mut [Point3D]) {
+    super::substitute_symmetric_band(lower, h, rhs)
+}
+
+pub fn factor_band(band: &mut [f64], h: usize) {
+    super::factor_band(band, h)
+}
+
+pub fn substitute_band(band: &[f64], h: usize, rhs: &mut [Point3D]) {
+    super::substitute_band(band, h, rhs)
+}

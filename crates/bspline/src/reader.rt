@@ -15,9 +15,6 @@ use crate::Refusal;
 use crate::Verdict;
 use geometry::Point;
 
-// The places of a window on the knots around a span, and of the basis functions' values after it: 2 * 25 + 1 and 26.
-const VALUES: usize = 51;
-
 // The flat knots: knot k repeated by its multiplicity, in the first places of `out`.
 pub fn flat_knots(knots: &[f64], mults: &[u32], out: &mut [f64])
     requires { ⌜ (length (now knots) ≡ length (now mults)) × (sumOf (now mults) ≤ length (now out)) ⌝ }
@@ -47,17 +44,38 @@ pub fn pole_sum(values: &[f64], poles: &[f64], first: usize, count: usize) -> Po
     sum
 }
 
-// The point at u, which the span holds: the knots around the span are copied before the places of the basis functions' values.
-pub fn span_point(flat: &[f64], degree: usize, span: usize, poles: &[f64], u: f64) -> Point
+// The point at u, which the span holds, worked out in a lent row: the knots around the span are copied before the places of the basis functions' values.
+fn window_point(
+    flat: &[f64],
+    degree: usize,
+    span: usize,
+    poles: &[f64],
+    u: f64,
+    row: &mut [f64],
+) -> Point
     requires { ⌜ (degree ≤ 25) × (degree ≤ span) × (span + degree < length (now flat)) × (3 * (span + 1) ≤ length (now poles)) ⌝ }
+    requires { ⌜ 3 * degree + 2 ≤ length (now row) ⌝ }
     ensures { λ r. ⌜ r ≡ weighted (degree + 1) (at (basisAt (now (flat .entry)) degree span u)) (λ a. pointAt (now (poles .entry)) (span - degree + a)) ⌝ }
 {
     let from = span - degree;
     let to = span + degree + 1;
+    let start = 2 * degree + 1;
+    places::copy(&flat[from..to], row);
+    crate::basis::basis_values(row, degree, degree, u, start);
+    pole_sum(&row[start..], poles, from, degree + 1)
+}
+
+// The same in a row of its own: a short one serves the low degrees.
+pub fn span_point(flat: &[f64], degree: usize, span: usize, poles: &[f64], u: f64) -> Point
+    requires { ⌜ (degree ≤ 25) × (degree ≤ span) × (span + degree < length (now flat)) × (3 * (span + 1) ≤ length (now poles)) ⌝ }
+    ensures { λ r. ⌜ r ≡ weighted (degree + 1) (at (basisAt (now (flat .entry)) degree span u)) (λ a. pointAt (now (poles .entry)) (span - degree + a)) ⌝ }
+{
+    if degree <= 5 {
+        let mut row = [0.0; 17];
+        return window_point(flat, degree, span, poles, u, &mut row);
+    }
     let mut row = [0.0; 77];
-    places::copy(&flat[from..to], &mut row);
-    crate::basis::basis_values(&mut row, degree, degree, u, VALUES);
-    pole_sum(&row[VALUES..], poles, from, degree + 1)
+    window_point(flat, degree, span, poles, u, &mut row)
 }
 
 // The point at u of a curve whose flat knots never fall: u is clamped into the range.

@@ -9,6 +9,10 @@ ghost use Rattle.geometry.specs.Points.{putPoint};
 ghost use Rattle.bspline.specs.Spans.{NeverFalls};
 ghost use Rattle.bspline.specs.Reader.{readerVerdict, readingOf, readingNumber, curvePoint, flatKnots};
 ghost use Rattle.places.specs.Regions.{part, splice};
+ghost use Rattle.places.specs.Loops.{outcome};
+ghost use Rattle.bands.specs.Cholesky.{factorSymmetricBand, substituteSymmetricBand};
+ghost use Rattle.bands.specs.BandLu.{factorBand, substituteBand};
+ghost use Rattle.bands.specs.Shapes.{Solvable};
 ghost use Rattle.knots.specs.Parameters.{pointParameters, sharedParameters};
 ghost use Rattle.knots.specs.Knots.{averagedKnots, approximationKnots};
 ghost use Rattle.knots.specs.Lines.{lineOf, linesOf};
@@ -157,4 +161,57 @@ pub extern "C" fn pieces_compress_knots(flat: &[f64], knots: &mut [f64], mults: 
     ensures { λ r. ⌜ Compressed (now (flat .entry)) (now (knots .entry)) (now (knots .exit)) (now (mults .entry)) (now (mults .exit)) r ⌝ }
 {
     knots::runs::compress_knots(flat, knots, mults)
+}
+
+#[no_mangle]
+pub extern "C" fn pieces_factor_symmetric_band(
+    lower: &mut [f64],
+    h: usize,
+    n: usize,
+    relative: f64,
+) -> bool
+    requires { ⌜ (h ≤ 25) × (n * (h + 1) ≤ length (now lower)) ⌝ }
+    ensures { λ r. ⌜ outcome r (now (lower .exit)) ≡ factorSymmetricBand h n relative (now (lower .entry)) ⌝ }
+{
+    bands::cholesky::factor_symmetric_band(lower, h, n, relative)
+}
+
+#[no_mangle]
+pub extern "C" fn pieces_substitute_symmetric_band(
+    work: &mut [f64],
+    l0: usize,
+    l1: usize,
+    p0: usize,
+    p1: usize,
+    h: usize,
+    n: usize,
+)
+    requires { ⌜ Solvable l0 l1 p0 p1 (h + 1) h n (now work) ⌝ }
+    ensures { λ _. ⌜ now (work .exit) ≡ splice p0 p1 (substituteSymmetricBand h n (part l0 l1 (now (work .entry))) (part p0 p1 (now (work .entry)))) (now (work .entry)) ⌝ }
+{
+    bands::cholesky::substitute_symmetric_band(work, l0, l1, p0, p1, h, n);
+}
+
+#[no_mangle]
+pub extern "C" fn pieces_factor_band(band: &mut [f64], h: usize, n: usize)
+    requires { ⌜ (h ≤ 25) × (n * (2 * h + 1) ≤ length (now band)) ⌝ }
+    ensures { λ _. ⌜ now (band .exit) ≡ factorBand h n (now (band .entry)) ⌝ }
+{
+    bands::lu::factor_band(band, h, n);
+}
+
+#[no_mangle]
+pub extern "C" fn pieces_substitute_band(
+    work: &mut [f64],
+    l0: usize,
+    l1: usize,
+    p0: usize,
+    p1: usize,
+    h: usize,
+    n: usize,
+)
+    requires { ⌜ Solvable l0 l1 p0 p1 (2 * h + 1) h n (now work) ⌝ }
+    ensures { λ _. ⌜ now (work .exit) ≡ splice p0 p1 (substituteBand h n (part l0 l1 (now (work .entry))) (part p0 p1 (now (work .entry)))) (now (work .entry)) ⌝ }
+{
+    bands::lu::substitute_band(work, l0, l1, p0, p1, h, n);
 }
