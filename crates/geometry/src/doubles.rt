@@ -1,12 +1,23 @@
-// The methods of f64 that the language lacks: the larger of two, finiteness, and the cut to a whole number.
+// The methods of f64 that the language lacks: the larger of two and of a list, finiteness, and the cut to a whole number.
 ghost use mathlib.Core.Path.{_≡_};
-ghost use Rattle.geometry.specs.Doubles.{larger, isFinite, wholePart};
+ghost use Rattle.geometry.specs.Doubles.{larger, largest, isFinite, wholePart};
 
 // The larger of two, as `f64::max` folds it: the first unless the second is above it, so that a NaN is passed over.
 pub fn max(x: f64, y: f64) -> f64
     ensures { λ r. ⌜ r ≡ larger x y ⌝ }
 {
     if x < y { y } else { x }
+}
+
+// The largest of 0 and the values of a list, NaN passed over.
+pub fn largest_of(list: &[f64]) -> f64
+    ensures { λ r. ⌜ r ≡ largest (now (list .entry)) ⌝ }
+{
+    let mut most = 0.0;
+    for k in 0..list.len() {
+        most = max(most, list[k]);
+    }
+    most
 }
 
 // Neither NaN nor infinite.

@@ -19,6 +19,9 @@ ghost use Rattle.knots.specs.Lines.{lineOf, linesOf};
 ghost use Rattle.knots.specs.Calls.{HasLine, HasLines, Found, KnotRegions, HasRoom, Compressed};
 ghost use Rattle.pieces.specs.Readings.{putReading};
 ghost use Rattle.pieces.specs.Spacings.{spacingOf};
+
+pub mod fits;
+
 use bspline::Reading;
 use knots::Spacing;
 

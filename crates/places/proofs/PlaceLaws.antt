@@ -1,6 +1,6 @@
--- The laws of `laid`, `listOf`, `joined` and `someBelow`. Assumes nothing.
+-- The laws of `laid`, `listOf`, `joined`, `someBelow` and `allBelow`. Assumes nothing.
 use mathlib.Core.Path.{_≡_, refl, sym, _∙_, ap, subst}
-use mathlib.Core.Bool.{Bool, true, false, cond, _||_}
+use mathlib.Core.Bool.{Bool, true, false, cond, _||_, _&&_}
 use mathlib.Core.List.{List, [], _∷_, _++_, append-assoc, append-nil}
 use mathlib.Core.Logic.{⊎-elim, _⊎_, inl, inr, _≢_}
 use Prim.Native.Nat.{ℕ, zero, suc, _+_, _-_, _*_, _<_, _≤_}
@@ -15,7 +15,7 @@ use Rattle.places.specs.Loops.{each}
 use Rattle.places.proofs.LoopLaws.{each-done, each-last}
 use Rattle.places.specs.Regions.{part, splice}
 use Rattle.places.proofs.RegionLaws.{part-front, length-part, set-append-add}
-use Rattle.places.specs.Places.{laid, listOf, joined, someBelow}
+use Rattle.places.specs.Places.{laid, listOf, joined, someBelow, allBelow}
 
 module _ {A : Type 0} where
   pub length-laid : (a n : ℕ) (f : ℕ → A) (xs : List A) → length (laid a n f xs) ≡ length xs
@@ -326,6 +326,12 @@ module _ {A : Type 0} where
       ap (drop (k * w + w - k * w)) back ∙ ap (λ (m : ℕ). drop m (drop (k * w) old)) width ∙ drop-drop w (k * w) old ∙ ap (λ (m : ℕ). drop m old) on in
       rw (front, whole, rest, joined-more k f) (sym (append-assoc (joined k f) (f k) (drop ((k + 1) * w) old)))
 
+  -- only the rows below n count
+  pub joined-same : (n : ℕ) (f g : ℕ → List A) → ((k : ℕ) → k < n → f k ≡ g k) → joined n f ≡ joined n g
+  unfolding joined
+  joined-same zero f g e = refl
+  joined-same (suc n) f g e = rw (e n (omega arith), joined-same n f g (λ k h. e k (omega arith)))
+
 -- one of two numbers is at most the other, or above it
 le-or-lt-by : (a b : ℕ) (t : Bool) → leb a b ≡ t → (a ≤ b) ⊎ (b < a)
 le-or-lt-by a b true e = inl (leb-true a b e)
@@ -371,3 +377,22 @@ some-false n p e k h = by-test (p k) refl
 pub or-false : (a b : Bool) → (a || b) ≡ false → (a ≡ false) × (b ≡ false)
 or-false true b e = absurd (differ true refl e)
 or-false false b e = (refl, e)
+
+and-false : (b : Bool) → (b && false) ≡ false
+and-false true = refl
+and-false false = refl
+
+pub all-none : (p : ℕ → Bool) → allBelow 0 p ≡ true
+unfolding allBelow
+all-none p = refl
+
+-- one that does not hold makes the test false of every count above it
+pub all-here : (n : ℕ) (p : ℕ → Bool) (k : ℕ) → k < n → p k ≡ false → allBelow n p ≡ false
+unfolding allBelow
+all-here zero p k h e = absurd (not-suc-le-zero h)
+all-here (suc n) p k h e =
+    ⊎-elim (λ q. rw (← q, e) (and-false (allBelow k p))) (λ lt. rw (all-here n p k lt e)) (eq-or-lt-of-le (le-of-suc-le-suc h))
+
+pub all-next : (n : ℕ) (p : ℕ → Bool) → allBelow n p ≡ true → p n ≡ true → allBelow (n + 1) p ≡ true
+unfolding allBelow
+all-next n p e h = rw (add-one n, e, h)

@@ -9,7 +9,7 @@ use Rattle.places.specs.Loops.{times, each, down}
 use Rattle.places.proofs.LoopLaws.{each-step, each-done, down-step, down-done}
 use Rattle.places.specs.Regions.{part, splice}
 use lib.ListN.{length, getD, take, drop, set, length-append, length-take, length-drop, length-set, take-append-drop, List·getD-append}
-use lib.Seq.{length-take-le, take-at, drop-at, take-append-le, drop-append-le, drop-append-add, getD-append-add, set-append-left, drop-drop, getD-take, getD-drop}
+use lib.Seq.{length-take-le, take-at, drop-at, take-append-le, drop-append-le, drop-append-add, getD-append-add, set-append-left, drop-drop, getD-take, getD-drop, take-nil, take-take}
 
 -- a list is what is before a region, the region, and what is after it
 pub parted {ℓ} : {A : Type ℓ} (a e : ℕ) (l : List A) → l ≡ take a l ++ (part a e l ++ drop (e - a) (drop a l))
@@ -167,6 +167,11 @@ module _ {A : Type 0} (f : ℕ → List A → List A) (keeps : (k : ℕ) (x : Li
   unfolding each
   length-each a b x = length-times (b - a) a x
 
+  pub length-down : (m : ℕ) (x : List A) → length (down m f x) ≡ length x
+  unfolding down
+  length-down zero x = refl
+  length-down (suc m) x = length-down m (f m x) ∙ keeps m x
+
 -- two steps in one region, each of which reads another region that stands before it
 pub splice-then : {A : Type 0} (b c p q : ℕ) (f : List A → List A → List A) (ys w w₁ w₂ : List A) → b ≤ c → c ≤ p → p ≤ q → q ≤ length w → length ys ≡ q - p
     → w₁ ≡ splice p q ys w
@@ -245,3 +250,40 @@ module _ {A : Type 0} (p q b c : ℕ) (g : List A → ℕ → List A → List A)
 
       pub down-end : (w : List A) → GoingDown p q b c g n w₀ w 0 → w ≡ splice p q (down n (g (part b c w₀)) (part p q w₀)) w₀
       down-end w v = sym (down-done (within p q (g (part b c w₀))) w) ∙ v .1 .1
+
+-- what stands before a place
+
+module _ {A : Type 0} where
+  drop-take : (a n : ℕ) (l : List A) → drop a (take (a + n) l) ≡ take n (drop a l)
+  drop-take zero n l = rw zero-add
+  drop-take (suc a) n [] = simp take-nil
+  drop-take (suc a) n (x ∷ l) = rw suc-add (drop-take a n l)
+
+  pub part-take : (a b e : ℕ) (l : List A) → a ≤ b → b ≤ e → part a b (take e l) ≡ part a b l
+  part-take a b e l h k =
+      let w : e ≡ a + (e - a) = omega arith in
+      ap (λ (n : ℕ). part a b (take n l)) w ∙ ap (take (b - a)) (drop-take a (e - a) l) ∙ take-take (b - a) (e - a) (drop a l) (omega arith)
+
+  -- two lists that agree before place e agree in each part there
+  pub part-same : (e : ℕ) (l l′ : List A) → take e l′ ≡ take e l → (a b : ℕ) → a ≤ b → b ≤ e → part a b l′ ≡ part a b l
+  part-same e l l′ same a b h k = sym (part-take a b e l′ h k) ∙ ap (part a b) same ∙ part-take a b e l h k
+
+  pub get-same : (e : ℕ) (l l′ : List A) (d : A) → take e l′ ≡ take e l → (i : ℕ) → i < e → getD l′ i d ≡ getD l i d
+  get-same e l l′ d same i h = sym (getD-take e l′ i d h) ∙ ap (λ (x : List A). getD x i d) same ∙ getD-take e l i d h
+
+  pub take-less : (a e : ℕ) (l l′ : List A) → a ≤ e → take e l′ ≡ take e l → take a l′ ≡ take a l
+  take-less a e l l′ h same = sym (take-take a e l′ h) ∙ ap (take a) same ∙ take-take a e l h
+
+  -- two neighbouring regions, one written after the other
+  pub splice-join : (a b e : ℕ) (ys zs l : List A) → a ≤ b → b ≤ e → e ≤ length l → length ys ≡ b - a → splice b e zs (splice a b ys l) ≡ splice a e (ys ++ zs) l
+  splice-join a b e ys zs l h k i n =
+      let x : List A = drop (b - a) (drop a l) in
+      let t : length (take a l) ≡ a = length-take-le a l (omega arith) in
+      let p : length (take a l ++ ys) ≡ b = length-append (take a l) ys ∙ omega arith in
+      let whole : splice a b ys l ≡ (take a l ++ ys) ++ x = sym (append-assoc (take a l) ys x) in
+      let front : take b (splice a b ys l) ≡ take a l ++ ys = ap (take b) whole ∙ take-at (take a l ++ ys) x b p in
+      let back : drop b (splice a b ys l) ≡ x = ap (drop b) whole ∙ drop-at (take a l ++ ys) x b p in
+      let wide : (b - a) + (e - b) ≡ e - a = omega arith in
+      let rest : drop (e - b) (drop b (splice a b ys l)) ≡ drop (e - a) (drop a l) =
+      ap (drop (e - b)) back ∙ drop-drop (e - b) (b - a) (drop a l) ∙ ap (λ (m : ℕ). drop m (drop a l)) wide in
+      rw (front, rest) (append-assoc (take a l) ys (zs ++ drop (e - a) (drop a l)) ∙ ap (λ (m : List A). take a l ++ m) (sym (append-assoc ys zs (drop (e - a) (drop a l)))))

@@ -54,3 +54,47 @@ pub record HasData (d : Data) (n below : ℕ) (points work : List Float) : Type 
   pub rows : d .kind ≡ 1 → (d .across ≡ n) × (3 * (d .lines * d .across) ≤ length points)
   pub columns : d .kind ≡ 2 → (d .across ≡ d .lines) × (d .start + 3 * (n * d .across) ≤ below)
   pub inside : below ≤ length work
+
+-- What the making of a table asks: the flat knots stand at flat..end, the parameters from `params` on, and the table's values behind both.
+pub record FillsTable (t : Table) (flat end params : ℕ) (work : List Float) (index : List ℕ) : Type 0 where
+  pub knots : flat + 2 * t .degree + 2 ≤ end
+  pub knots-before : end ≤ t .values
+  pub params-before : params + t .count ≤ t .values
+  pub values-in : t .values + t .count * (t .degree + 1) ≤ length work
+  pub firsts-in : t .firsts + t .count ≤ length index
+
+-- Point k of line r lies in its slice.
+pub record HasPoint (d : Data) (r k : ℕ) (points work : List Float) : Type 0 where
+  pub ladder : d .kind ≡ 0 → 3 * k + 3 ≤ length points
+  pub rows : d .kind ≡ 1 → 3 * (r * d .across + k) + 3 ≤ length points
+  pub columns : 2 ≤ d .kind → d .start + (3 * (k * d .across + r) + 3) ≤ length work
+
+-- What a least-squares fit asks: the table and the data stand before the band, and the m poles of each line behind it.
+pub record HasSquares (t : Table) (d : Data) (m band poles : ℕ) (points work : List Float) (index : List ℕ) : Type 0 where
+  pub table : HasTable t m work index
+  pub lines : HasData d (t .count) band points work
+  pub behind : t .values + t .count * (t .degree + 1) ≤ band
+  pub matrix : band + m * (t .degree + 1) ≤ poles
+  pub room : poles + 3 * (d .lines * m) ≤ length work
+
+-- A fit that was looked for: r says whether there is one, and then its poles stand from `poles` on. Only the band and the poles were written.
+pub record Squared (fit : Option (List Float)) (n band poles : ℕ) (w w′ : List Float) (r : Bool) : Type 0 where
+  pub answer : fit ≡ cond r (some (part poles (poles + n) w′)) none
+  pub kept : Kept band (poles + n) w w′
+
+-- Parameter k of a table, and the poles that it reads in the region from `poles` to `end`, pole `start` on.
+pub record Readable (t : Table) (poles end start k : ℕ) (work : List Float) (index : List ℕ) : Type 0 where
+  pub high : t .degree ≤ 25
+  pub row : k < t .count
+  pub firsts-in : t .firsts + t .count ≤ length index
+  pub values-in : t .values + t .count * (t .degree + 1) ≤ length work
+  pub some : poles ≤ end
+  pub poles-in : poles + 3 * (start + first (tableIn t work index) k + (t .degree + 1)) ≤ end
+  pub end-in : end ≤ length work
+
+-- A table with its fits of `lines` lines, m poles each, from `poles` on; all stands before the n places from `out` on, which are to be written.
+pub record HasFit (t : Table) (lines m poles out n : ℕ) (work : List Float) (index : List ℕ) : Type 0 where
+  pub table : HasTable t m work index
+  pub values-before : t .values + t .count * (t .degree + 1) ≤ out
+  pub poles-before : poles + 3 * (lines * m) ≤ out
+  pub room : out + n ≤ length work

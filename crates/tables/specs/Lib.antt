@@ -5,3 +5,6 @@ pub mod Interpolation
 pub mod Deviations
 pub mod Directions
 pub mod Layout
+pub mod Steps
+pub mod Through
+pub mod Measures

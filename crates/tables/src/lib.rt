@@ -1,5 +1,10 @@
 // Basis tables, least squares, interpolation, and deviations, for ladders, rows and columns: document 01, part 3 (`BasisTable`, `least_squares`,
 // `interpolation`) and part 4 (`row_deviations`, `deviations`). Everything stands in regions of two lent slices, `work` and `index`.
+pub mod basis_table;
+pub mod datum;
+pub mod deviations;
+pub mod squares;
+pub mod through;
 
 // The data of a direction, by a number: a ladder's points, a grid's rows, or the columns of the row poles.
 pub const LADDER: usize = 0;
@@ -22,4 +27,10 @@ pub struct Data {
     pub lines: usize,
     pub across: usize,
     pub start: usize,
+}
+
+// What is made of distances: the largest, folded from 0 with NaN passed over, and how many are NaN.
+pub struct Measured {
+    pub largest: f64,
+    pub unreadable: usize,
 }

@@ -1,0 +1,123 @@
+-- The loop's invariant: the worst deviations of the first s spans stand at the front. Span s starts at place s or after it, so its deviations are still there. Assumes nothing.
+use mathlib.Core.Path.{_≡_, refl, sym, _∙_}
+use Prim.Native.Nat.{_-_, _≤_, _<_}
+use native.Mathlib.Omega.{arith}
+use borrow.Author.Needs.{needs}
+use lib.ListN.{length, length-set}
+use lib.Ieee.{nan}
+use Rattle.places.specs.Places.{listOf}
+use Rattle.places.proofs.PlaceLaws.{length-listOf, listOf-more}
+use Rattle.places.proofs.GatheredLaws.{front, front-next, front-part}
+use Rattle.refinement.specs.Refinement.{startOf, endOf, worstOf, spanWorsts}
+use Rattle.refinement.proofs.SpanLaws.{start-far}
+use Rattle.refinement.proofs.spans.worst_spans.Statement.{statement}
+use Rattle.refinement.proofs.spans.worst_spans.Tie as tie
+
+abbrev Inv-loop : tie.InvT-loop
+Inv-loop deviations₀ ends s₀ s-end deviations s = (s ≤ length ends) × ((length deviations ≡ length deviations₀) × (deviations ≡ front (listOf s (worstOf deviations₀ ends)) deviations₀))
+
+abbrev μ-loop : tie.MeasureT-loop
+μ-loop deviations₀ ends s₀ s-end deviations s = length ends - s
+
+-- span s is not empty, ends within the deviations, and starts at place s or after it
+span : (x : tie.At-loop Inv-loop μ-loop) → let a = x .before .before .before .args in x .loop .s < length (a .ends .now)
+    → (startOf (a .ends .now) (x .loop .s) < endOf (a .ends .now) (x .loop .s)) × (endOf (a .ends .now) (x .loop .s) ≤ length (a .deviations .now)) × (x .loop .s ≤ startOf (a .ends .now) (x .loop .s))
+span x h =
+    let a = x .before .before .before in
+    (a .pre .0 (x .loop .s) h, a .pre .1 (x .loop .s) h, start-far (a .args .ends .now) (a .pre .0) (x .loop .s) (omega arith))
+
+loop-holds : tie.Need-loop-holds Inv-loop μ-loop
+unfolding listOf
+loop-holds c = (omega arith, (refl, refl))
+
+start-of-requires : tie.Need-start-of-requires Inv-loop μ-loop
+start-of-requires c κs = search needs
+
+mul-e : tie.Need-mul-e Inv-loop μ-loop
+mul-e c = search needs
+
+shared-slice-read-e : tie.Need-shared-slice-read-e Inv-loop μ-loop
+shared-slice-read-e c = search needs
+
+mul-largest-of : tie.Need-mul-largest-of Inv-loop μ-loop
+mul-largest-of c =
+    let at = c .before .before .before in
+    let in-list = span at (omega arith) in
+    let h : c .before .start-of .result < length (at .loop .deviations) = omega (arith, c .before .start-of .ensures) in
+    search needs
+
+sub-largest-of : tie.Need-sub-largest-of Inv-loop μ-loop
+sub-largest-of c = let in-list = span (c .before .before .before) (omega arith) in omega (arith, c .before .start-of .ensures)
+
+part-largest-of-start : tie.Need-part-largest-of-start Inv-loop μ-loop
+part-largest-of-start c = let in-list = span (c .before .before .before .before) (omega arith) in omega (arith, c .before .before .start-of .ensures)
+
+part-largest-of-end : tie.Need-part-largest-of-end Inv-loop μ-loop
+part-largest-of-end c = let in-list = span (c .before .before .before .before) (omega arith) in omega (arith, c .before .before .start-of .ensures)
+
+largest-of-requires : tie.Need-largest-of-requires Inv-loop μ-loop
+largest-of-requires c κs = search needs
+
+mul-deviations : tie.Need-mul-deviations Inv-loop μ-loop
+mul-deviations c = search needs
+
+slice-write-deviations : tie.Need-slice-write-deviations Inv-loop μ-loop
+slice-write-deviations c = let in-list = span (c .before .before .before .before .before .before) (omega arith) in omega arith
+
+add-s : tie.Need-add-s Inv-loop μ-loop
+add-s c = search needs
+
+loop-less : tie.Need-loop-less Inv-loop μ-loop
+loop-less c = omega arith
+
+loop-again : tie.Need-loop-again Inv-loop μ-loop
+unfolding worstOf
+loop-again c =
+    let at = c .before .before .before .before .before .before in
+    let a = at .before .before .before in
+    let in-list = span at (omega arith) in
+    let xs = listOf (at .loop .s) (worstOf (a .args .deviations .now) (a .args .ends .now)) in
+    let n : length xs ≡ at .loop .s = length-listOf (at .loop .s) (worstOf (a .args .deviations .now) (a .args .ends .now)) in
+    let same = front-part xs (a .args .deviations .now) (startOf (a .args .ends .now) (at .loop .s)) (endOf (a .args .ends .now) (at .loop .s)) (omega arith) in
+    let v : c .largest-of .result ≡ worstOf (a .args .deviations .now) (a .args .ends .now) (at .loop .s) =
+    c .largest-of .ensures ∙ rw (c .before .before .before .before .start-of .ensures, at .loop .inv .1 .1, same) in (
+      omega arith,
+      (
+        simp length-set (at .loop .inv .1 .0),
+        rw (listOf-more, ← v, at .loop .inv .1 .1) (front-next xs (a .args .deviations .now) (at .loop .s) (c .largest-of .result) nan (sym n) (omega arith)),
+      ),
+    )
+
+same-length : tie.Need-same-length Inv-loop μ-loop
+same-length c = omega arith
+
+returns : tie.Need-returns Inv-loop μ-loop
+unfolding spanWorsts
+returns c =
+    let at = c .before in
+    let e : at .loop .s ≡ length (at .before .before .before .args .ends .now) = omega arith in
+    let n = length-listOf (length (at .before .before .before .args .ends .now)) (worstOf (at .before .before .before .args .deviations .now) (at .before .before .before .args .ends .now)) in
+    rw n at (rw e at (at .loop .inv .1 .1))
+
+pub worst-spans-spec : {M : Type 1} → statement M
+worst-spans-spec =
+    tie.close
+    (tie.spec
+    Inv-loop
+    μ-loop
+    loop-holds
+    start-of-requires
+    mul-e
+    shared-slice-read-e
+    mul-largest-of
+    sub-largest-of
+    part-largest-of-start
+    part-largest-of-end
+    largest-of-requires
+    mul-deviations
+    slice-write-deviations
+    add-s
+    loop-less
+    loop-again
+    same-length
+    returns)

@@ -1,0 +1,8 @@
+-- What the arithmetic of a search wants. It holds at the start, and after each try (proofs/SearchLaws, bounded-start, bounded-fitted, bounded-failed).
+use Prim.Native.Nat.{_≤_}
+use Rattle.search.specs.declared.Search.{Search}
+
+pub record Bounded (s : Search) : Type 0 where
+  pub rises : 1 ≤ s .step
+  pub apart : s .low ≤ s .high
+  pub small : s .high ≤ 1024
