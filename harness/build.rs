@@ -1,5 +1,5 @@
 //! Finds the published Rust (the folder GEOMCORE, with its src/), and writes the module declarations that compile it unchanged into this program.
-//! Of curves/fitting.rs a copy is made beside them whose text is the published one and, after it, the line that declares our module `pieces`:
+//! Of each fitting.rs a copy is made beside them whose text is the published one and, after it, the line that declares our module `pieces`:
 //! so the comparison reaches its private functions. Links the static library of this repository.
 use std::path::{Path, PathBuf};
 use std::{env, fs};
@@ -12,9 +12,13 @@ fn main() {
     let source = fs::canonicalize(&source).unwrap_or_else(|_| panic!("no reference at {}", source.display()));
     let path = |p: &Path| p.to_str().unwrap().to_string();
 
-    let fitting = fs::read_to_string(source.join("curves/fitting.rs")).unwrap();
-    let pieces = format!("\n#[path = {:?}]\npub(crate) mod pieces;\n", path(&here.join("src/pieces.rs")));
-    fs::write(out.join("fitting.rs"), fitting + &pieces).unwrap();
+    let with_child = |file: &str, child: &str, to: &str| {
+        let text = fs::read_to_string(source.join(file)).unwrap();
+        let line = format!("\n#[path = {:?}]\npub(crate) mod pieces;\n", path(&here.join(child)));
+        fs::write(out.join(to), text + &line).unwrap();
+    };
+    with_child("curves/fitting.rs", "src/pieces.rs", "fitting.rs");
+    with_child("surfaces/fitting.rs", "src/grid_pieces.rs", "grid_fitting.rs");
 
     let at = |file: &str| format!("#[path = {:?}]\n", path(&source.join(file)));
     let text = [
@@ -26,6 +30,9 @@ fn main() {
         "pub mod curves {\n".into(),
         format!("#[path = {:?}]\npub mod fitting;\n", path(&out.join("fitting.rs"))),
         format!("#[path = {:?}]\nmod curve;\npub use curve::*;\n}}\n", path(&here.join("src/shims/curve.rs"))),
+        "pub mod surfaces {\n".into(),
+        format!("#[path = {:?}]\npub mod fitting;\n", path(&out.join("grid_fitting.rs"))),
+        format!("#[path = {:?}]\nmod surface;\npub use surface::*;\n}}\n", path(&here.join("src/shims/surface.rs"))),
     ];
     fs::write(out.join("reference.rs"), text.concat()).unwrap();
 

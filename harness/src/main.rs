@@ -8,7 +8,9 @@ pub mod tol {
 }
 #[path = "shims/vector.rs"]
 pub mod vector;
+pub use curves::PointParametrization;
 pub use point::{Point2D, Point3D};
+pub use surfaces::BSplineSurface;
 pub use tolerance::Tolerance;
 pub use vector::{Vector2D, Vector3D};
 
@@ -19,6 +21,7 @@ mod points;
 mod random;
 mod readings;
 mod roots;
+mod tables;
 
 fn main() {
     let words: Vec<String> = std::env::args().skip(1).collect();
@@ -28,14 +31,16 @@ fn main() {
         Some("readings") => readings::compare(number(1, 1_000_000), number(2, 1)),
         Some("knots") => knots::compare(number(1, 100_000), number(2, 1)),
         Some("bands") => bands::compare(number(1, 20_000), number(2, 1)),
+        Some("tables") => tables::compare(number(1, 20_000), number(2, 1)),
         Some("bench") => {
             roots::bench();
             readings::bench();
             bands::bench();
+            tables::bench();
             0
         }
         _ => {
-            eprintln!("beside roots COUNT SEED | readings COUNT SEED | knots COUNT SEED | bands COUNT SEED | bench");
+            eprintln!("beside roots COUNT SEED | readings COUNT SEED | knots COUNT SEED | bands COUNT SEED | tables COUNT SEED | bench");
             std::process::exit(2)
         }
     };

@@ -20,6 +20,33 @@ unsafe extern "C" {
     fn pieces_substitute_symmetric_band(work: *mut f64, len: usize, l0: usize, l1: usize, p0: usize, p1: usize, h: usize, n: usize);
     fn pieces_factor_band(band: *mut f64, len: usize, h: usize, n: usize);
     fn pieces_substitute_band(work: *mut f64, len: usize, l0: usize, l1: usize, p0: usize, p1: usize, h: usize, n: usize);
+    fn pieces_fill_table(
+        work: *mut f64, len: usize, index: *mut usize, index_len: usize, degree: usize, count: usize, firsts: usize, values: usize,
+        flat: usize, end: usize, params: usize,
+    );
+    fn pieces_least_squares(
+        work: *mut f64, len: usize, index: *const usize, index_len: usize, points: *const f64, points_len: usize,
+        degree: usize, count: usize, firsts: usize, values: usize, kind: usize, lines: usize, across: usize, start: usize,
+        m: usize, band: usize, poles: usize,
+    ) -> bool;
+    fn pieces_interpolation(
+        work: *mut f64, len: usize, index: *const usize, index_len: usize, points: *const f64, points_len: usize,
+        degree: usize, count: usize, firsts: usize, values: usize, kind: usize, lines: usize, across: usize, start: usize,
+        band: usize, poles: usize,
+    );
+    fn pieces_ladder_deviations(
+        work: *mut f64, len: usize, index: *const usize, index_len: usize, points: *const f64, points_len: usize,
+        degree: usize, count: usize, firsts: usize, values: usize, m: usize, poles: usize, out: usize, most: *mut f64, most_len: usize,
+    ) -> usize;
+    fn pieces_row_deviations(
+        work: *mut f64, len: usize, index: *const usize, index_len: usize, points: *const f64, points_len: usize,
+        degree: usize, count: usize, firsts: usize, values: usize, rows: usize, m: usize, poles: usize, out: usize, most: *mut f64, most_len: usize,
+    ) -> usize;
+    fn pieces_grid_deviations(
+        work: *mut f64, len: usize, index: *const usize, index_len: usize, points: *const f64, points_len: usize,
+        u_degree: usize, u_count: usize, u_firsts: usize, u_values: usize, v_degree: usize, v_count: usize, v_firsts: usize, v_values: usize,
+        columns: usize, m: usize, poles: usize, curve: usize, out: usize, most: *mut f64, most_len: usize,
+    ) -> usize;
     fn pieces_curve_point(flat: *const f64, flat_len: usize, degree: usize, poles: *const f64, poles_len: usize, u: f64, out: *mut f64, out_len: usize);
 }
 
@@ -127,4 +154,172 @@ pub fn substitute(symmetric: bool, work: &mut [f64], factors: usize, h: usize, n
     unsafe {
         if symmetric { pieces_substitute_symmetric_band(a, len, 0, factors, factors, end, h, n) } else { pieces_substitute_band(a, len, 0, factors, factors, end, h, n) }
     }
+}
+
+/// Lines of data by their kind: 0 a ladder, 1 a grid's rows, 2 the columns of row poles.
+#[derive(Clone, Copy)]
+pub struct Lines {
+    pub kind: usize,
+    pub lines: usize,
+    pub across: usize,
+}
+
+/// One direction's work and index: parameters, flat knots, the table's values, the row poles of columns, the band, the poles, the deviations,
+/// with guard places between the regions and behind the last.
+pub struct Work {
+    pub work: Vec<f64>,
+    pub index: Vec<usize>,
+    pub degree: usize,
+    pub count: usize,
+    pub m: usize,
+    pub given: Lines,
+    pub values: usize,
+    pub start: usize,
+    pub band: usize,
+    pub poles: usize,
+    pub out: usize,
+}
+
+const FIRSTS: usize = 2;
+
+impl Work {
+    pub fn new(params: &[f64], flat: &[f64], degree: usize, given: Lines, row_poles: &[f64]) -> Work {
+        let (n, m) = (params.len(), flat.len() - degree - 1);
+        assert!((1..=25).contains(&degree) && degree < m && m <= n && (2..=1024).contains(&n));
+        assert!((1..=64).contains(&given.lines) && given.kind <= 2 && (given.kind != 2 || row_poles.len() == 3 * n * given.across));
+        let values = n + 1 + flat.len() + 1;
+        let start = values + n * (degree + 1) + 1;
+        let band = start + row_poles.len() + 1;
+        let poles = band + n * (2 * degree + 1) + 1;
+        let out = poles + 3 * given.lines * m + 1;
+        let mut work = vec![GUARD; out + n + 1];
+        work[..n].copy_from_slice(params);
+        work[n + 1..n + 1 + flat.len()].copy_from_slice(flat);
+        work[start..start + row_poles.len()].copy_from_slice(row_poles);
+        Work { work, index: vec![77; FIRSTS + n + 1], degree, count: n, m, given, values, start, band, poles, out }
+    }
+
+    /// Runs f, and sees to it that no place outside from..to has changed.
+    fn within<T>(&mut self, from: usize, to: usize, f: impl FnOnce(&mut Work) -> T) -> T {
+        let before = self.work.clone();
+        let result = f(self);
+        let same = |a: &[f64], b: &[f64]| a.iter().zip(b).all(|(x, y)| x.to_bits() == y.to_bits());
+        assert!(same(&before[..from], &self.work[..from]) && same(&before[to..], &self.work[to..]), "a place outside the region was written");
+        result
+    }
+
+    pub fn fill_table(&mut self) {
+        let (p, n) = (self.degree, self.count);
+        unsafe {
+            pieces_fill_table(
+                self.work.as_mut_ptr(), self.work.len(), self.index.as_mut_ptr(), self.index.len(), p, n, FIRSTS, self.values,
+                n + 1, n + 1 + self.m + p + 1, 0,
+            )
+        }
+    }
+
+    pub fn fill_table_checked(&mut self) {
+        let (from, to) = (self.values, self.values + self.count * (self.degree + 1));
+        self.within(from, to, |w| w.fill_table());
+        assert!(self.index[..FIRSTS].iter().all(|&x| x == 77) && self.index[FIRSTS + self.count] == 77);
+    }
+
+    pub fn firsts(&self) -> &[usize] {
+        &self.index[FIRSTS..FIRSTS + self.count]
+    }
+
+    pub fn table_values(&self) -> &[f64] {
+        &self.work[self.values..self.values + self.count * (self.degree + 1)]
+    }
+
+    fn poles_end(&self) -> usize {
+        self.poles + 3 * self.given.lines * self.m
+    }
+
+    pub fn found_poles(&self) -> &[f64] {
+        &self.work[self.poles..self.poles_end()]
+    }
+
+    pub fn least_squares(&mut self, points: &[f64]) -> bool {
+        let (w, d) = (&mut self.work, self.given);
+        unsafe {
+            pieces_least_squares(
+                w.as_mut_ptr(), w.len(), self.index.as_ptr(), self.index.len(), points.as_ptr(), points.len(), self.degree, self.count, FIRSTS, self.values,
+                d.kind, d.lines, d.across, self.start, self.m, self.band, self.poles,
+            )
+        }
+    }
+
+    pub fn least_squares_checked(&mut self, points: &[f64]) -> bool {
+        let (from, to) = (self.band, self.poles_end());
+        self.within(from, to, |w| w.least_squares(points))
+    }
+
+    pub fn interpolation(&mut self, points: &[f64]) {
+        assert!(self.m == self.count);
+        let (from, to) = (self.band, self.poles_end());
+        self.within(from, to, |s| {
+            let (w, d) = (&mut s.work, s.given);
+            unsafe {
+                pieces_interpolation(
+                    w.as_mut_ptr(), w.len(), s.index.as_ptr(), s.index.len(), points.as_ptr(), points.len(), s.degree, s.count, FIRSTS, s.values,
+                    d.kind, d.lines, d.across, s.start, s.band, s.poles,
+                )
+            }
+        })
+    }
+
+    /// The largest deviation, and how many are NaN; the deviations stand in `deviations()`.
+    pub fn measure(&mut self, points: &[f64]) -> (f64, usize) {
+        let (from, to) = (self.out, self.out + self.count);
+        let mut most = [GUARD; 2];
+        let unreadable = self.within(from, to, |s| {
+            let (w, rows) = (&mut s.work, s.given.kind == 1);
+            unsafe {
+                if rows {
+                    pieces_row_deviations(
+                        w.as_mut_ptr(), w.len(), s.index.as_ptr(), s.index.len(), points.as_ptr(), points.len(), s.degree, s.count, FIRSTS, s.values,
+                        s.given.lines, s.m, s.poles, s.out, most.as_mut_ptr(), 2,
+                    )
+                } else {
+                    pieces_ladder_deviations(
+                        w.as_mut_ptr(), w.len(), s.index.as_ptr(), s.index.len(), points.as_ptr(), points.len(), s.degree, s.count, FIRSTS, s.values,
+                        s.m, s.poles, s.out, most.as_mut_ptr(), 2,
+                    )
+                }
+            }
+        });
+        assert!(most[1] == GUARD);
+        (most[0], unreadable)
+    }
+
+    pub fn deviations(&self) -> &[f64] {
+        &self.work[self.out..self.out + self.count]
+    }
+}
+
+/// The whole grid against the surface that the columns' fit of `u` gives, with the table of `v`: each row's deviation, the largest, and how many are NaN.
+pub fn grid_deviations(u: &Work, v: &Work, points: &[f64]) -> (Vec<f64>, f64, usize) {
+    let columns = u.given.lines;
+    let (u_values, v_values) = (0, u.table_values().len() + 1);
+    let poles = v_values + v.table_values().len() + 1;
+    let curve = poles + u.found_poles().len() + 1;
+    let out = curve + 3 * columns;
+    let mut work = vec![GUARD; out + u.count + 1];
+    work[..v_values - 1].copy_from_slice(u.table_values());
+    work[v_values..poles - 1].copy_from_slice(v.table_values());
+    work[poles..curve - 1].copy_from_slice(u.found_poles());
+    let mut index = u.firsts().to_vec();
+    index.extend(v.firsts());
+    let mut most = [GUARD; 2];
+    let before = work.clone();
+    let unreadable = unsafe {
+        pieces_grid_deviations(
+            work.as_mut_ptr(), work.len(), index.as_ptr(), index.len(), points.as_ptr(), points.len(), u.degree, u.count, 0, u_values,
+            v.degree, v.count, u.count, v_values, columns, u.m, poles, curve, out, most.as_mut_ptr(), 2,
+        )
+    };
+    assert!(most[1] == GUARD && work[out + u.count] == GUARD);
+    assert!(before[..curve].iter().zip(&work).all(|(a, b)| a.to_bits() == b.to_bits()), "a place outside the region was written");
+    (work[out..out + u.count].to_vec(), most[0], unreadable)
 }

@@ -32,3 +32,11 @@ pub fn factor_band(band: &mut [f64], h: usize) {
 pub fn substitute_band(band: &[f64], h: usize, rhs: &mut [Point3D]) {
     super::substitute_band(band, h, rhs)
 }
+
+pub fn firsts(basis: &BasisTable) -> &[usize] {
+    &basis.firsts
+}
+
+pub fn values(basis: &BasisTable) -> &[f64] {
+    &basis.values
+}

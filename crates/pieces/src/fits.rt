@@ -2,13 +2,15 @@
 ghost use mathlib.Core.Path.{_≡_};
 ghost use Prim.Native.Nat.{_+_, _*_, _≤_};
 ghost use lib.ListN.{length, set};
+ghost use Rattle.places.specs.Places.{listOf};
 ghost use Rattle.places.specs.Regions.{part, splice};
+ghost use Rattle.geometry.specs.Doubles.{at, largest};
 ghost use Rattle.tables.specs.BasisTable.{basisTable};
 ghost use Rattle.tables.specs.LeastSquares.{leastSquares};
-ghost use Rattle.tables.specs.Deviations.{ladderDistances};
+ghost use Rattle.tables.specs.Deviations.{ladderDistances, rowDistances};
 ghost use Rattle.tables.specs.Layout.{tableIn, dataPoint, FillsTable, HasSquares, Squared, HasFit};
 ghost use Rattle.tables.specs.Through.{Interpolates, Interpolated};
-ghost use Rattle.tables.specs.Measures.{measured};
+ghost use Rattle.tables.specs.Measures.{measured, HasGrid, GridMeasured, gridDistancesIn};
 ghost use Rattle.pieces.specs.Fits.{tableOf, dataOf};
 use tables::Data;
 use tables::Measured;
@@ -138,6 +140,101 @@ pub extern "C" fn pieces_ladder_deviations(
         values: values,
     };
     let measured = tables::deviations::ladder_deviations(work, index, points, table, m, poles, out);
+    most[0] = measured.largest;
+    measured.unreadable
+}
+
+#[no_mangle]
+pub extern "C" fn pieces_row_deviations(
+    work: &mut [f64],
+    index: &[usize],
+    points: &[f64],
+    degree: usize,
+    count: usize,
+    firsts: usize,
+    values: usize,
+    rows: usize,
+    m: usize,
+    poles: usize,
+    out: usize,
+    most: &mut [f64],
+) -> usize
+    requires { ⌜ HasFit (tableOf degree count firsts values) rows m poles out count (now work) (now index) × (3 * (rows * count) ≤ length (now points)) × (1 ≤ length (now most)) ⌝ }
+    ensures { λ r. ⌜ r ≡ measured (rowDistances rows (tableIn (tableOf degree count firsts values) (now (work .entry)) (now (index .entry))) m (part poles (poles + 3 * (rows * m)) (now (work .entry))) (now (points .entry))) .unreadable ⌝ }
+    ensures { λ _. ⌜ now (most .exit) ≡ set (now (most .entry)) 0 (measured (rowDistances rows (tableIn (tableOf degree count firsts values) (now (work .entry)) (now (index .entry))) m (part poles (poles + 3 * (rows * m)) (now (work .entry))) (now (points .entry))) .largest) ⌝ }
+    ensures { λ _. ⌜ now (work .exit) ≡ splice out (out + count) (listOf count (λ j. largest (listOf rows (λ i. at (rowDistances rows (tableIn (tableOf degree count firsts values) (now (work .entry)) (now (index .entry))) m (part poles (poles + 3 * (rows * m)) (now (work .entry))) (now (points .entry))) (i * count + j))))) (now (work .entry)) ⌝ }
+{
+    let table = Table {
+        degree: degree,
+        count: count,
+        firsts: firsts,
+        values: values,
+    };
+    let measured = tables::deviations::row_deviations(
+        work,
+        index,
+        points,
+        table,
+        rows,
+        m,
+        poles,
+        out,
+    );
+    most[0] = measured.largest;
+    measured.unreadable
+}
+
+// The tables along u and v by degree, count, first places and values: pu, nu, fu, wu and pv, nv, fv, wv.
+#[no_mangle]
+pub extern "C" fn pieces_grid_deviations(
+    work: &mut [f64],
+    index: &[usize],
+    points: &[f64],
+    pu: usize,
+    nu: usize,
+    fu: usize,
+    wu: usize,
+    pv: usize,
+    nv: usize,
+    fv: usize,
+    wv: usize,
+    columns: usize,
+    m: usize,
+    poles: usize,
+    curve: usize,
+    out: usize,
+    most: &mut [f64],
+) -> usize
+    requires { ⌜ HasGrid (tableOf pu nu fu wu) (tableOf pv nv fv wv) columns m poles curve out (now points) (now work) (now index) × (1 ≤ length (now most)) ⌝ }
+    ensures { λ r. ⌜ r ≡ measured (gridDistancesIn (tableOf pu nu fu wu) (tableOf pv nv fv wv) columns m poles (now (points .entry)) (now (work .entry)) (now (index .entry))) .unreadable ⌝ }
+    ensures { λ _. ⌜ now (most .exit) ≡ set (now (most .entry)) 0 (measured (gridDistancesIn (tableOf pu nu fu wu) (tableOf pv nv fv wv) columns m poles (now (points .entry)) (now (work .entry)) (now (index .entry))) .largest) ⌝ }
+    ensures { λ _. ⌜ GridMeasured nu nv curve out (gridDistancesIn (tableOf pu nu fu wu) (tableOf pv nv fv wv) columns m poles (now (points .entry)) (now (work .entry)) (now (index .entry))) (now (work .entry)) (now (work .exit))
+        (measured (gridDistancesIn (tableOf pu nu fu wu) (tableOf pv nv fv wv) columns m poles (now (points .entry)) (now (work .entry)) (now (index .entry)))) ⌝ }
+{
+    let u = Table {
+        degree: pu,
+        count: nu,
+        firsts: fu,
+        values: wu,
+    };
+    let v = Table {
+        degree: pv,
+        count: nv,
+        firsts: fv,
+        values: wv,
+    };
+    let measured = tables::deviations::grid_deviations(
+        work,
+        index,
+        points,
+        u,
+        v,
+        columns,
+        m,
+        poles,
+        curve,
+        out,
+    );
     most[0] = measured.largest;
     measured.unreadable
 }

@@ -14,7 +14,7 @@ use lib.Seq.{getD-set-same, getD-set-other, set-comm, set-set, set-append-left, 
 use Rattle.places.specs.Loops.{each}
 use Rattle.places.proofs.LoopLaws.{each-done, each-last}
 use Rattle.places.specs.Regions.{part, splice}
-use Rattle.places.proofs.RegionLaws.{part-front, length-part, set-append-add}
+use Rattle.places.proofs.RegionLaws.{part-front, length-part, set-append-add, getD-part}
 use Rattle.places.specs.Places.{laid, listOf, joined, someBelow, allBelow}
 
 module _ {A : Type 0} where
@@ -331,6 +331,11 @@ module _ {A : Type 0} where
   unfolding joined
   joined-same zero f g e = refl
   joined-same (suc n) f g e = rw (e n (omega arith), joined-same n f g (λ k h. e k (omega arith)))
+
+-- a place of rows of w places
+pub joined-at : {A : Type 0} (n w : ℕ) (f : ℕ → List A) (d : A) → ((k : ℕ) → k < n → length (f k) ≡ w) → (i j : ℕ) → i < n → j < w → getD (joined n f) (i * w + j) d ≡ getD (f i) j d
+joined-at {A} n w f d e i j h l =
+    sym (getD-part (i * w) (i * w + w) (joined n f) j d (omega arith)) ∙ ap (λ (x : List A). getD x j d) (part-joined n w f e i h)
 
 -- one of two numbers is at most the other, or above it
 le-or-lt-by : (a b : ℕ) (t : Bool) → leb a b ≡ t → (a ≤ b) ⊎ (b < a)

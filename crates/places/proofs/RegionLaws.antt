@@ -172,6 +172,11 @@ module _ {A : Type 0} (f : ℕ → List A → List A) (keeps : (k : ℕ) (x : Li
   length-down zero x = refl
   length-down (suc m) x = length-down m (f m x) ∙ keeps m x
 
+-- a step in a region that was replaced
+pub splice-on : {A : Type 0} (p q : ℕ) (f : List A → List A) (ys w w₁ w₂ : List A) → p ≤ q → q ≤ length w → length ys ≡ q - p → w₁ ≡ splice p q ys w → w₂ ≡ splice p q (f (part p q w₁)) w₁
+    → w₂ ≡ splice p q (f ys) w
+splice-on p q f ys w w₁ w₂ h k n e₁ e₂ = e₂ ∙ rw (e₁, part-splice p q ys w h k n) (splice-again p q ys w h k n (f ys))
+
 -- two steps in one region, each of which reads another region that stands before it
 pub splice-then : {A : Type 0} (b c p q : ℕ) (f : List A → List A → List A) (ys w w₁ w₂ : List A) → b ≤ c → c ≤ p → p ≤ q → q ≤ length w → length ys ≡ q - p
     → w₁ ≡ splice p q ys w

@@ -82,6 +82,9 @@ has-table-kept has e = record {
 
 -- ---- Kept
 
+pub kept-same : (a e : ℕ) (w : List Float) → Kept a e w w
+kept-same a e w = record { long = refl; front = refl; back = refl }
+
 pub kept-splice : (a e : ℕ) (ys w : List Float) → a ≤ e → e ≤ length w → length ys ≡ e - a → Kept a e w (splice a e ys w)
 kept-splice a e ys w h k n =
     record { long = length-splice a e ys w h k n; front = take-splice a e ys w h k n; back = drop-splice a e ys w h k n }

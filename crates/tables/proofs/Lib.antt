@@ -6,3 +6,4 @@ pub mod SquareLaws
 pub mod SpliceLaws
 pub mod ThroughLaws
 pub mod MeasureLaws
+pub mod GridLaws

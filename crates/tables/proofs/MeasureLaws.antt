@@ -12,7 +12,7 @@ use lib.Ieee.{Float, nan, le, isNan}
 use Rattle.places.specs.Places.{listOf}
 use Rattle.places.proofs.PlaceLaws.{listOf-more, length-listOf}
 use Rattle.geometry.specs.Doubles.{larger, largestFrom, largest}
-use Rattle.geometry.proofs.Folds.{from-append, nested-largest, largest-more}
+use Rattle.geometry.proofs.Folds.{nested-largest, largest-more}
 use Rattle.tables.specs.declared.Measured.{Measured}
 use Rattle.tables.specs.Deviations.{allWithin, unreadable}
 use Rattle.tables.specs.Measures.{measured, withOne, withAll}
@@ -61,10 +61,6 @@ largest-append xs ys =
     ∙ ap (λ (x : Float). larger x (largest ys)) (largest-alone xs)
 
 -- ---- both
-pub measured-none : (f : ℕ → Float) → measured (listOf 0 f) ≡ measured []
-unfolding listOf
-measured-none f = refl
-
 pub measured-more : (k : ℕ) (f : ℕ → Float) → measured (listOf (k + 1) f) ≡ withOne (measured (listOf k f)) (f k)
 unfolding measured withOne unreadable
 measured-more k f = rw (largest-more k f, listOf-more k f, unreadable-append (listOf k f) (f k ∷ []))
@@ -83,6 +79,3 @@ measured-next k f m r d e g h = h ∙ rw (e, g, measured-more)
 pub measured-within : (ds : List Float) (m : Measured) → m ≡ measured ds → m .unreadable ≤ length ds
 unfolding measured
 measured-within ds m e = rw e (unreadable-few ds)
-
-pub measured-start : (f : ℕ → Float) → measured [] ≡ measured (listOf 0 f)
-measured-start f = sym (measured-none f)

@@ -1,29 +1,20 @@
--- A region filled with points, one after the other. Assumes nothing.
+-- Lists of points, and regions that are filled with points one after the other. Assumes nothing.
 use mathlib.Core.Path.{_≡_, refl, sym, _∙_, ap}
 use mathlib.Core.List.{List, [], _∷_, _++_, append-assoc, append-nil}
-use Prim.Native.Nat.{ℕ, zero, suc, _+_, _-_, _*_, _≤_, _<_}
-use native.Mathlib.Nat.{not-suc-le-zero, add-zero}
-use native.Mathlib.Numerals.{add-one}
+use Prim.Native.Nat.{ℕ, _+_, _-_, _*_, _≤_, _<_}
 use native.Mathlib.Omega.{arith}
-use lib.ListN.{length, getD, set, take, drop, length-append, length-drop, length-set}
-use lib.Seq.{take-at, drop-at, drop-drop, drop-length, length-take-le}
+use lib.ListN.{length, set, drop, length-append, length-drop}
+use lib.Seq.{drop-drop, drop-length}
 use lib.Ieee.{Float}
-use Rattle.places.specs.Loops.{down}
 use Rattle.places.specs.Places.{joined}
 use Rattle.places.specs.Regions.{part, splice}
 use Rattle.places.proofs.PlaceLaws.{joined-more, length-joined, joined-same}
-use Rattle.places.proofs.RegionLaws.{part-splice, splice-part, splice-again, set-append-add, length-part}
+use Rattle.places.proofs.RegionLaws.{splice-part, set-append-add, length-part, splice-on}
 use Rattle.geometry.specs.declared.Point.{Point}
 use Rattle.geometry.specs.Points.{putPoint, coordinates, pointsOf}
 use Rattle.tables.specs.Layout.{Kept}
 use Rattle.tables.proofs.KeptLaws.{kept-splice}
 
--- a step in a region that was replaced
-pub splice-on : {A : Type 0} (p q : ℕ) (f : List A → List A) (ys w w₁ w₂ : List A) → p ≤ q → q ≤ length w → length ys ≡ q - p → w₁ ≡ splice p q ys w → w₂ ≡ splice p q (f (part p q w₁)) w₁
-    → w₂ ≡ splice p q (f ys) w
-splice-on p q f ys w w₁ w₂ h k n e₁ e₂ = e₂ ∙ rw (e₁, part-splice p q ys w h k n) (splice-again p q ys w h k n (f ys))
-
--- ---- points
 pub length-points : (n : ℕ) (q : ℕ → Point) → length (pointsOf n q) ≡ 3 * n
 unfolding pointsOf coordinates
 length-points n q = length-joined n 3 (λ k. coordinates (q k)) (λ k h. refl) ∙ omega arith

@@ -1,19 +1,19 @@
 -- The steps of interpolation in regions of the work make what the definition says. Assumes nothing.
 use mathlib.Core.Path.{_≡_, refl, sym, _∙_, ap}
-use mathlib.Core.Bool.{true, false, cond, _&&_}
-use mathlib.Core.List.{List, [], _∷_, _++_}
+use mathlib.Core.Bool.{_&&_}
+use mathlib.Core.List.{List, _++_}
 use mathlib.Core.Logic.{inl}
 use Prim.Native.Nat.{ℕ, _+_, _-_, _*_, _≤_, _<_}
 use native.Mathlib.Omega.{arith}
 use lib.Dec.{leb}
-use lib.ListN.{length, getD, set, replicate, length-set, length-replicate, take-append-drop}
-use lib.Ieee.{Float, nan, eq}
+use lib.ListN.{length, getD, replicate, length-set, length-replicate, take-append-drop}
+use lib.Ieee.{Float, eq}
 use Rattle.places.specs.Loops.{each}
-use Rattle.places.specs.Places.{laid, listOf, joined}
+use Rattle.places.specs.Places.{laid, joined}
 use Rattle.places.specs.Regions.{part, splice}
 use Rattle.places.proofs.LoopLaws.{each-cong}
 use Rattle.places.proofs.PlaceLaws.{laid-region, listOf-replicate, joined-more, length-joined, row-in, joined-same}
-use Rattle.places.proofs.RegionLaws.{Apart, length-each, length-splice, length-part, part-splice, splice-then, splice-join, length-down}
+use Rattle.places.proofs.RegionLaws.{Apart, length-each, part-splice, splice-then, splice-join, splice-on, length-down}
 use Rattle.geometry.specs.declared.Point.{Point}
 use Rattle.geometry.specs.Doubles.{_⊗_, _⊘_, one, nought, at}
 use Rattle.geometry.specs.Points.{putPoint, pointsOf}
@@ -24,13 +24,13 @@ use Rattle.bands.specs.Shapes.{Solvable}
 use Rattle.bands.proofs.Lengths.{length-cond, length-forward-step, length-back-band-row}
 use Rattle.tables.specs.declared.Table.{Table}
 use Rattle.tables.specs.declared.Data.{Data}
-use Rattle.tables.specs.BasisTable.{BasisTable, parameterCount, first, value}
+use Rattle.tables.specs.BasisTable.{BasisTable, first, value}
 use Rattle.tables.specs.Interpolation.{putValue, interpolationMatrix, interpolatedLine, interpolation}
-use Rattle.tables.specs.Layout.{tableIn, dataPoint, Kept, HasTable, HasData}
-use Rattle.tables.specs.Through.{putWithin, putColumn, lineThrough, HasMatrix, HasLine, Interpolates, Interpolated}
+use Rattle.tables.specs.Layout.{tableIn, dataPoint, Kept, HasData}
+use Rattle.tables.specs.Through.{putWithin, putColumn, lineThrough, HasMatrix, Interpolates, Interpolated}
 use Rattle.tables.proofs.KeptLaws.{kept-splice, kept-part, kept-point, kept-wider, kept-then, pole-below, has-table-kept}
 use Rattle.tables.proofs.ReadingLaws.{count-in, first-in, value-in}
-use Rattle.tables.proofs.SpliceLaws.{splice-on, length-points, points-same}
+use Rattle.tables.proofs.SpliceLaws.{length-points, points-same}
 
 -- ---- lengths
 pub length-put-within : (h j column : ℕ) (x : Float) (l : List Float) → length (putWithin h j column x l) ≡ length l

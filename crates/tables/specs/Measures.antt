@@ -1,11 +1,20 @@
 -- What is made of distances as they are found, one after the other. Definitions only.
+use mathlib.Core.Path.{_≡_}
 use mathlib.Core.Bool.{cond}
 use mathlib.Core.List.{List}
-use Prim.Native.Nat.{ℕ, _+_}
+use Prim.Native.Nat.{ℕ, _+_, _*_, _≤_}
+use lib.ListN.{length}
 use lib.Ieee.{Float, isNan}
-use Rattle.geometry.specs.Doubles.{larger, largest}
+use Rattle.places.specs.Places.{listOf}
+use Rattle.places.specs.Regions.{part}
+use Rattle.geometry.specs.Doubles.{at, larger, largest}
+use Rattle.geometry.specs.Points.{distance, pointAt, pointsOf}
 use Rattle.tables.specs.declared.Measured.{Measured}
-use Rattle.tables.specs.Deviations.{unreadable}
+use Rattle.tables.specs.declared.Table.{Table}
+use Rattle.tables.specs.BasisTable.{BasisTable, tablePoint}
+use Rattle.tables.specs.Deviations.{gridDistances, unreadable}
+use Rattle.tables.specs.Directions.{transposed}
+use Rattle.tables.specs.Layout.{tableIn, Kept, HasTable, HasFit}
 
 -- the largest, and how many are NaN
 unfoldable pub measured : List Float → Measured
@@ -17,3 +26,29 @@ withOne m d = record { largest = larger (m .largest) d; unreadable = m .unreadab
 
 unfoldable pub withAll : Measured → Measured → Measured
 withAll m n = record { largest = larger (m .largest) (n .largest); unreadable = m .unreadable + n .unreadable }
+
+-- point j of row i of s, `cols` points a row, and its distance from the row's own m poles
+abbrev pub fromLine : BasisTable → ℕ → List Float → List Float → ℕ → ℕ → ℕ → Float
+fromLine t m poles s cols i j = distance (tablePoint t poles (i * m) j) (pointAt s (i * cols + j))
+
+-- the poles of the v curve at u parameter i, of columns' poles that stand line after line, m to a column
+abbrev pub curveOf : BasisTable → ℕ → ℕ → List Float → ℕ → List Float
+curveOf u columns m poles i = pointsOf columns (λ l. tablePoint u poles (l * m) i)
+
+-- A surface's u table with the poles of its columns, and its v table, before the places of a curve's poles; the deviations stand behind these.
+pub record HasGrid (u v : Table) (columns m poles curve out : ℕ) (points work : List Float) (index : List ℕ) : Type 0 where
+  pub fit : HasFit u columns m poles curve (3 * columns + u .count) work index
+  pub across : HasTable v columns work index
+  pub across-before : v .values + v .count * (v .degree + 1) ≤ curve
+  pub behind : out ≡ curve + 3 * columns
+  pub given : 3 * (u .count * v .count) ≤ length points
+
+-- what is made of a grid's distances ds: the measures, each parameter's deviation from `out` on, and all else as it was, but for the curve's poles
+pub record GridMeasured (rows cols curve out : ℕ) (ds w w′ : List Float) (r : Measured) : Type 0 where
+  pub measures : r ≡ measured ds
+  pub deviations : part out (out + rows) w′ ≡ listOf rows (λ i. largest (listOf cols (λ j. at ds (i * cols + j))))
+  pub kept : Kept curve (out + rows) w w′
+
+abbrev pub gridDistancesIn : Table → Table → ℕ → ℕ → ℕ → List Float → List Float → List ℕ → List Float
+gridDistancesIn u v columns m poles points work index =
+    gridDistances (tableIn u work index) (tableIn v work index) columns (transposed columns m (part poles (poles + 3 * (columns * m)) work)) points

@@ -2,11 +2,14 @@
 ghost use mathlib.Core.Path.{_≡_};
 ghost use Prim.Native.Nat.{_+_, _*_, _^_, _≤_, _<_};
 ghost use lib.ListN.{length};
+ghost use Rattle.places.specs.Places.{listOf, laid};
 ghost use Rattle.places.specs.Regions.{part, splice};
+ghost use Rattle.geometry.specs.Doubles.{at, larger, largest};
+ghost use Rattle.geometry.specs.Points.{distance, pointAt};
 ghost use Rattle.tables.specs.BasisTable.{tablePoint};
-ghost use Rattle.tables.specs.Deviations.{allWithin, ladderDistances};
-ghost use Rattle.tables.specs.Layout.{tableIn, Readable, HasFit};
-ghost use Rattle.tables.specs.Measures.{measured, withOne};
+ghost use Rattle.tables.specs.Deviations.{allWithin, ladderDistances, rowDistances};
+ghost use Rattle.tables.specs.Layout.{tableIn, Readable, HasTable, HasFit};
+ghost use Rattle.tables.specs.Measures.{measured, withOne, withAll, fromLine, curveOf, HasGrid, GridMeasured, gridDistancesIn};
 use crate::Measured;
 use crate::Table;
 use geometry::Point;
@@ -41,6 +44,17 @@ fn with_one(m: Measured, d: f64) -> Measured
     Measured {
         largest: most,
         unreadable: m.unreadable,
+    }
+}
+
+// The measures of two lists of distances, one after the other.
+fn with_all(m: Measured, n: Measured) -> Measured
+    requires { ⌜ m .unreadable + n .unreadable < 2 ^ 64 ⌝ }
+    ensures { λ r. ⌜ r ≡ withAll m n ⌝ }
+{
+    Measured {
+        largest: geometry::doubles::max(m.largest, n.largest),
+        unreadable: m.unreadable + n.unreadable,
     }
 }
 
@@ -89,6 +103,147 @@ pub fn ladder_deviations(
         let d = q.distance(geometry::point_at(points, k));
         total = with_one(total, d);
         work[out + k] = d;
+    }
+    total
+}
+
+// Row i of a grid against its own m poles: where a point's distance is larger than its column's deviation at `out`, it is put there.
+fn row_distances(
+    work: &mut [f64],
+    index: &[usize],
+    points: &[f64],
+    table: Table,
+    rows: usize,
+    m: usize,
+    i: usize,
+    poles: usize,
+    out: usize,
+) -> Measured
+    requires { ⌜ HasFit table rows m poles out (table .count) (now work) (now index) × (i < rows) × (3 * (rows * table .count) ≤ length (now points)) ⌝ }
+    ensures { λ r. ⌜ r ≡ measured (listOf (table .count) (fromLine (tableIn table (now (work .entry)) (now (index .entry))) m (part poles (poles + 3 * (rows * m)) (now (work .entry))) (now (points .entry)) (table .count) i)) ⌝ }
+    ensures { λ _. ⌜ now (work .exit) ≡ laid out (table .count) (λ j. larger (at (now (work .entry)) (out + j)) (fromLine (tableIn table (now (work .entry)) (now (index .entry))) m (part poles (poles + 3 * (rows * m)) (now (work .entry))) (now (points .entry)) (table .count) i j)) (now (work .entry)) ⌝ }
+{
+    let count = table.count;
+    let end = poles + 3 * (rows * m);
+    let start = i * m;
+    let first = i * count;
+    let mut total = Measured {
+        largest: 0.0,
+        unreadable: 0,
+    };
+    for j in 0..count {
+        let q = table_point(work, index, table, poles, end, start, j);
+        let d = q.distance(geometry::point_at(points, first + j));
+        total = with_one(total, d);
+        work[out + j] = geometry::doubles::max(work[out + j], d);
+    }
+    total
+}
+
+// A grid's rows, each against its own m poles: each column's deviation, the largest over the rows, from place `out` on.
+pub fn row_deviations(
+    work: &mut [f64],
+    index: &[usize],
+    points: &[f64],
+    table: Table,
+    rows: usize,
+    m: usize,
+    poles: usize,
+    out: usize,
+) -> Measured
+    requires { ⌜ HasFit table rows m poles out (table .count) (now work) (now index) × (3 * (rows * table .count) ≤ length (now points)) ⌝ }
+    ensures { λ r. ⌜ r ≡ measured (rowDistances rows (tableIn table (now (work .entry)) (now (index .entry))) m (part poles (poles + 3 * (rows * m)) (now (work .entry))) (now (points .entry))) ⌝ }
+    ensures { λ _. ⌜ now (work .exit) ≡ splice out (out + table .count) (listOf (table .count) (λ j. largest (listOf rows (λ i. at (rowDistances rows (tableIn table (now (work .entry)) (now (index .entry))) m (part poles (poles + 3 * (rows * m)) (now (work .entry))) (now (points .entry))) (i * table .count + j))))) (now (work .entry)) ⌝ }
+{
+    let count = table.count;
+    places::fill(work, out, count, 0.0);
+    let mut total = Measured {
+        largest: 0.0,
+        unreadable: 0,
+    };
+    for i in 0..rows {
+        let row = row_distances(work, index, points, table, rows, m, i, poles, out);
+        total = with_all(total, row);
+    }
+    total
+}
+
+// The poles of the v curve at u parameter i, from place `curve` on: column l's m poles stand from pole l * m on.
+fn curve_poles(
+    work: &mut [f64],
+    index: &[usize],
+    u: Table,
+    columns: usize,
+    m: usize,
+    i: usize,
+    poles: usize,
+    curve: usize,
+)
+    requires { ⌜ HasFit u columns m poles curve (3 * columns) (now work) (now index) × (i < u .count) ⌝ }
+    ensures { λ _. ⌜ now (work .exit) ≡ splice curve (curve + 3 * columns) (curveOf (tableIn u (now (work .entry)) (now (index .entry))) columns m (part poles (poles + 3 * (columns * m)) (now (work .entry))) i) (now (work .entry)) ⌝ }
+{
+    let end = poles + 3 * (columns * m);
+    let to = curve + 3 * columns;
+    for l in 0..columns {
+        let q = table_point(work, index, u, poles, end, l * m, i);
+        geometry::put_point(&mut work[curve..to], l, q);
+    }
+}
+
+// Row i of a grid against the v curve whose poles stand from place `curve` on.
+fn curve_distances(
+    work: &[f64],
+    index: &[usize],
+    points: &[f64],
+    v: Table,
+    columns: usize,
+    i: usize,
+    curve: usize,
+) -> Measured
+    requires { ⌜ HasTable v columns (now work) (now index) × (curve + 3 * columns ≤ length (now work)) × (3 * (i * v .count + v .count) ≤ length (now points)) ⌝ }
+    ensures { λ r. ⌜ r ≡ measured (listOf (v .count) (λ j. distance (tablePoint (tableIn v (now (work .entry)) (now (index .entry))) (part curve (curve + 3 * columns) (now (work .entry))) 0 j) (pointAt (now (points .entry)) (i * v .count + j)))) ⌝ }
+{
+    let count = v.count;
+    let end = curve + 3 * columns;
+    let first = i * count;
+    let mut total = Measured {
+        largest: 0.0,
+        unreadable: 0,
+    };
+    for j in 0..count {
+        let q = table_point(work, index, v, curve, end, 0, j);
+        let d = q.distance(geometry::point_at(points, first + j));
+        total = with_one(total, d);
+    }
+    total
+}
+
+// A grid's points, each against the whole surface at its pair of parameters: each row's deviation, the largest over the row, from place `out` on.
+pub fn grid_deviations(
+    work: &mut [f64],
+    index: &[usize],
+    points: &[f64],
+    u: Table,
+    v: Table,
+    columns: usize,
+    m: usize,
+    poles: usize,
+    curve: usize,
+    out: usize,
+) -> Measured
+    requires { ⌜ HasGrid u v columns m poles curve out (now points) (now work) (now index) ⌝ }
+    ensures { λ r. ⌜ GridMeasured (u .count) (v .count) curve out (gridDistancesIn u v columns m poles (now (points .entry)) (now (work .entry)) (now (index .entry))) (now (work .entry)) (now (work .exit)) r ⌝ }
+{
+    let rows = u.count;
+    let mut total = Measured {
+        largest: 0.0,
+        unreadable: 0,
+    };
+    for i in 0..rows {
+        curve_poles(work, index, u, columns, m, i, poles, curve);
+        let row = curve_distances(work, index, points, v, columns, i, curve);
+        work[out + i] = row.largest;
+        total = with_all(total, row);
     }
     total
 }

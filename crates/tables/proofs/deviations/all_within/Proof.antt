@@ -1,10 +1,10 @@
 -- The invariant: the test of the rest is the test of the whole. Assumes nothing.
-use Prim.Native.Nat.{_≤_, _-_}
 use mathlib.Core.Path.{_≡_, sym, _∙_}
+use Prim.Native.Nat.{_≤_, _-_}
+use borrow.Author.Needs.{needs}
 use lib.ListN.{length, drop}
 use Rattle.tables.specs.Deviations.{allWithin}
 use Rattle.tables.proofs.MeasureLaws.{all-step, all-stop, all-end}
-use borrow.Author.Needs.{needs}
 use Rattle.tables.proofs.deviations.all_within.Statement.{statement}
 use Rattle.tables.proofs.deviations.all_within.Tie as tie
 

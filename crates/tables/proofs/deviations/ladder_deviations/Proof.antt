@@ -2,8 +2,10 @@
 use mathlib.Core.Path.{_≡_, refl, sym, _∙_, ap}
 use mathlib.Core.List.{List}
 use Prim.Native.Nat.{ℕ, _+_, _-_, _*_, _≤_}
+use native.Mathlib.Omega.{arith}
+use borrow.Author.Needs.{needs}
 use lib.ListN.{length}
-use lib.Ieee.{Float, ofBits}
+use lib.Ieee.{Float}
 use Rattle.places.specs.Places.{laid, listOf}
 use Rattle.places.specs.Regions.{part}
 use Rattle.places.proofs.PlaceLaws.{laid-none, laid-next, laid-region, length-laid}
@@ -15,10 +17,8 @@ use Rattle.tables.specs.Deviations.{ladderDistances, unreadable}
 use Rattle.tables.specs.Layout.{tableIn}
 use Rattle.tables.specs.Measures.{measured}
 use Rattle.tables.proofs.KeptLaws.{kept-laid}
-use Rattle.tables.proofs.MeasureLaws.{measured-none, measured-next, measured-few}
+use Rattle.tables.proofs.MeasureLaws.{measured-next, measured-few}
 use Rattle.tables.proofs.ReadingLaws.{count-in, read-kept, readable}
-use native.Mathlib.Omega.{arith}
-use borrow.Author.Needs.{needs}
 use Rattle.tables.proofs.deviations.ladder_deviations.Statement.{statement}
 use Rattle.tables.proofs.deviations.ladder_deviations.Tie as tie
 
@@ -85,7 +85,7 @@ loop-again c =
     c .before .distance .ensures
     ∙ rw (c .before .before .before .table-point .ensures, c .before .before .point-at .ensures)
     (ap (λ p. distance p (pointAt (a .points .now) (l .loop .k)))
-    (read-kept (a .out) (a .out + l .loop .k) (a .work .now) (l .loop .work) (rw (l .loop .inv .2) (kept-laid (a .out) (l .loop .k) D (a .work .now) (omega arith))) (omega arith) (a .table) (a .index .now) (a .poles) (a .poles + 3 * a .m) 0 (l .loop .k) (omega arith) (omega arith) (omega arith))) in
+    (read-kept (a .out) (a .out + l .loop .k) (a .work .now) (l .loop .work) (rw (l .loop .inv .2) (kept-laid (a .out) (l .loop .k) D (a .work .now) (omega arith))) (a .table) (a .index .now) (a .poles) (a .poles + 3 * a .m) 0 (l .loop .k) (omega arith) (omega arith) (omega arith))) in
     let put = laid-next (a .out) (l .loop .k) D (a .work .now) (l .loop .work) (c .before .distance .result) (l .loop .inv .2) e in
     (omega arith, ap length put ∙ length-laid (a .out) (l .loop .k + 1) D (a .work .now), put, measured-next (l .loop .k) D (l .loop .total) (c .with-one .result) (c .before .distance .result) (l .loop .inv .3) e (c .with-one .ensures))
 

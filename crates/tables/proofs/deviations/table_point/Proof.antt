@@ -1,11 +1,10 @@
 -- The values of parameter k are lent as a part of their own, and so are the poles. Assumes nothing.
-use mathlib.Core.Path.{_≡_, _∙_}
+use mathlib.Core.Path.{_∙_}
 use Prim.Native.Nat.{_+_}
-use lib.ListN.{getD}
-use Rattle.places.proofs.PlaceLaws.{row-in}
-use Rattle.tables.proofs.ReadingLaws.{first-in, point-in}
 use native.Mathlib.Omega.{arith}
 use borrow.Author.Needs.{needs}
+use Rattle.places.proofs.PlaceLaws.{row-in}
+use Rattle.tables.proofs.ReadingLaws.{first-in, point-in}
 use Rattle.tables.proofs.deviations.table_point.Statement.{statement}
 use Rattle.tables.proofs.deviations.table_point.Tie as tie
 

@@ -1,10 +1,11 @@
 use native.Mathlib.Nat.{add-zero}
--- The definition, by the test for NaN. Assumes nothing.
+use borrow.Author.Needs.{needs}
 use Rattle.geometry.proofs.DoubleLaws.{ne-nan, ne-number}
 use Rattle.tables.specs.Measures.{withOne}
-use borrow.Author.Needs.{needs}
 use Rattle.tables.proofs.deviations.with_one.Statement.{statement}
 use Rattle.tables.proofs.deviations.with_one.Tie as tie
+
+-- The definition, by the test for NaN. Assumes nothing.
 
 max-requires : tie.Need-max-requires
 max-requires c κs = search needs

@@ -1,19 +1,18 @@
-use Rattle.places.specs.Regions.{part, splice}
 use mathlib.Core.List.{List}
+use mathlib.Core.Path.{_∙_}
+use Prim.Native.Nat.{_≤_, _-_}
+use native.Mathlib.Omega.{arith}
+use borrow.Author.Needs.{needs}
 use lib.Ieee.{Float}
 use lib.ListN.{length}
-use Prim.Native.Nat.{_≤_}
-use native.Mathlib.Omega.{arith}
--- The points are put, solved for in their place, and the end points put back: each step in the one region. Assumes nothing.
-use mathlib.Core.Path.{_≡_, _∙_}
-use Prim.Native.Nat.{_-_}
+use Rattle.places.specs.Regions.{splice}
 use Rattle.tables.specs.Layout.{dataPoint}
 use Rattle.tables.proofs.KeptLaws.{data-wider, has-point, kept-point, pole-below}
 use Rattle.tables.proofs.ThroughLaws.{line-solved, solved-kept, line-first, first-kept, line-last}
-use native.Mathlib.Omega.{arith}
-use borrow.Author.Needs.{needs}
 use Rattle.tables.proofs.through.interpolated_line.Statement.{statement}
 use Rattle.tables.proofs.through.interpolated_line.Tie as tie
+
+-- The points are put, solved for in their place, and the end points put back: each step in the one region. Assumes nothing.
 
 put-line-requires : tie.Need-put-line-requires
 put-line-requires c κs = search needs

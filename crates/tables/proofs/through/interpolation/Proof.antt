@@ -1,16 +1,17 @@
-use native.Mathlib.Omega.{arith}
--- The invariant: the first r lines' poles stand at `poles`, solved with the factored matrix; all else is as it was. Assumes nothing.
 use mathlib.Core.Path.{_≡_, refl}
 use Prim.Native.Nat.{ℕ, _+_, _-_, _*_, _≤_}
+use native.Mathlib.Omega.{arith}
+use borrow.Author.Needs.{needs}
 use lib.ListN.{length}
 use Rattle.places.specs.Places.{joined}
-use Rattle.places.specs.Regions.{part, splice}
+use Rattle.places.specs.Regions.{splice}
 use Rattle.places.proofs.PlaceLaws.{row-in}
 use Rattle.tables.proofs.KeptLaws.{data-wider}
 use Rattle.tables.proofs.ThroughLaws.{linesTo, lines-start, lines-turn, interpolated}
-use borrow.Author.Needs.{needs}
 use Rattle.tables.proofs.through.interpolation.Statement.{statement}
 use Rattle.tables.proofs.through.interpolation.Tie as tie
+
+-- The invariant: the first r lines' poles stand at `poles`, solved with the factored matrix; all else is as it was. Assumes nothing.
 
 abbrev Inv-loop : tie.InvT-loop
 Inv-loop work₀ index points given band poles n lines h end r₀ work r = (r ≤ lines) × (length work ≡ length work₀) × (work ≡ splice poles (poles + r * (3 * n)) (joined r (linesTo h n band end given points work₀)) work₀)

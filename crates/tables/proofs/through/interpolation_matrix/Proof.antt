@@ -1,11 +1,10 @@
 -- The loop's invariant: what the rows that are left make of the matrix is what all of them make of the cleared region. Assumes nothing.
-use mathlib.Core.Path.{_≡_}
-use Prim.Native.Nat.{ℕ, _+_, _-_, _*_, _≤_}
+use Prim.Native.Nat.{_+_, _-_, _*_}
+use native.Mathlib.Omega.{arith}
+use borrow.Author.Needs.{needs}
 use Rattle.places.proofs.RegionLaws.{Going, going-start, going-turn, going-end}
 use Rattle.tables.specs.Layout.{tableIn}
 use Rattle.tables.proofs.ThroughLaws.{rowTurn, length-row-turn, matrix-apart, has-matrix-kept, matrix-filled}
-use native.Mathlib.Omega.{arith}
-use borrow.Author.Needs.{needs}
 use Rattle.tables.proofs.through.interpolation_matrix.Statement.{statement}
 use Rattle.tables.proofs.through.interpolation_matrix.Tie as tie
 

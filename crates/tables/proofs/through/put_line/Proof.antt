@@ -1,15 +1,15 @@
 -- The invariant: the first k points stand at `from`, and all else is as it was. Assumes nothing.
 use mathlib.Core.Path.{_≡_, refl, _∙_}
 use mathlib.Core.List.{_++_}
-use Prim.Native.Nat.{_+_, _-_, _*_, _≤_}
+use Prim.Native.Nat.{_-_, _*_, _≤_}
+use native.Mathlib.Omega.{arith}
+use borrow.Author.Needs.{needs}
 use lib.ListN.{length, drop}
 use Rattle.places.specs.Regions.{part, splice}
 use Rattle.geometry.specs.Points.{pointsOf}
 use Rattle.tables.specs.Layout.{dataPoint}
 use Rattle.tables.proofs.KeptLaws.{kept-point, has-point, pole-below, data-wider}
 use Rattle.tables.proofs.SpliceLaws.{points-start, points-turn, points-end, points-kept}
-use native.Mathlib.Omega.{arith}
-use borrow.Author.Needs.{needs}
 use Rattle.tables.proofs.through.put_line.Statement.{statement}
 use Rattle.tables.proofs.through.put_line.Tie as tie
 

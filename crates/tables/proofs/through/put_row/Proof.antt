@@ -1,15 +1,14 @@
 -- The loop's invariant: what the values that are left make of the row is what all of them make of it. Assumes nothing.
-use mathlib.Core.Path.{_≡_, sym, _∙_}
 use mathlib.Core.List.{List}
 use mathlib.Core.Logic.{inl}
 use Prim.Native.Nat.{ℕ, _+_, _-_, _≤_}
+use native.Mathlib.Omega.{arith}
+use borrow.Author.Needs.{needs}
 use lib.ListN.{length}
 use lib.Ieee.{Float, nan}
 use Rattle.places.proofs.RegionLaws.{Apart, Going, going-start, going-turn, going-end, getD-part}
-use Rattle.tables.specs.Through.{putWithin, putColumn}
+use Rattle.tables.specs.Through.{putColumn}
 use Rattle.tables.proofs.ThroughLaws.{length-put-column}
-use native.Mathlib.Omega.{arith}
-use borrow.Author.Needs.{needs}
 use Rattle.tables.proofs.through.put_row.Statement.{statement}
 use Rattle.tables.proofs.through.put_row.Tie as tie
 

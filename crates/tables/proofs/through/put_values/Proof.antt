@@ -1,14 +1,14 @@
 -- The values of parameter j are those that the table has there. Assumes nothing.
-use mathlib.Core.Path.{_≡_, _∙_, ap}
+use mathlib.Core.Path.{_∙_, ap}
 use mathlib.Core.List.{List}
-use Prim.Native.Nat.{_+_, _-_, _*_, _≤_}
+use Prim.Native.Nat.{_+_, _-_, _*_}
+use native.Mathlib.Omega.{arith}
+use borrow.Author.Needs.{needs}
 use lib.Ieee.{Float}
 use Rattle.places.specs.Regions.{part, splice}
 use Rattle.places.proofs.PlaceLaws.{row-in}
 use Rattle.tables.proofs.ReadingLaws.{first-in}
 use Rattle.tables.proofs.ThroughLaws.{row-in-table}
-use native.Mathlib.Omega.{arith}
-use borrow.Author.Needs.{needs}
 use Rattle.tables.proofs.through.put_values.Statement.{statement}
 use Rattle.tables.proofs.through.put_values.Tie as tie
 

@@ -1,8 +1,8 @@
 -- The definition, by the tests. Assumes nothing.
 use mathlib.Core.Path.{_∙_}
 use borrow.Author.Tests.{le-leb, lt-leb}
-use Rattle.tables.specs.Through.{putWithin}
 use borrow.Author.Needs.{needs}
+use Rattle.tables.specs.Through.{putWithin}
 use Rattle.tables.proofs.through.put_within.Statement.{statement}
 use Rattle.tables.proofs.through.put_within.Tie as tie
 

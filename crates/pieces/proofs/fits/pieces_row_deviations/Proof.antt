@@ -1,0 +1,28 @@
+-- What the call ensures, its two numbers apart. Assumes nothing.
+use mathlib.Core.Path.{ap}
+use lib.ListN.{set}
+use Rattle.tables.specs.declared.Measured.{Measured}
+use borrow.Author.Needs.{needs}
+use Rattle.pieces.proofs.fits.pieces_row_deviations.Statement.{statement}
+use Rattle.pieces.proofs.fits.pieces_row_deviations.Tie as tie
+
+row-deviations-requires : tie.Need-row-deviations-requires
+row-deviations-requires c κs = search needs
+
+slice-write-most : tie.Need-slice-write-most
+slice-write-most c = search needs
+
+same-length : tie.Need-same-length
+same-length c = search needs
+
+same-length-2 : tie.Need-same-length-2
+same-length-2 c = search needs
+
+returns : tie.Need-returns
+returns c =
+    let e = c .before .before .row-deviations .ensures in
+    (ap (λ (m : Measured). m .unreadable) (e .0), (ap (λ (m : Measured). set (c .before .before .before .before .before .before .before .before .args .most .now) 0 (m .largest)) (e .0), e .1))
+
+pub pieces-row-deviations-spec : {M : Type 1} → statement M
+pieces-row-deviations-spec =
+    tie.close (tie.spec row-deviations-requires slice-write-most same-length same-length-2 returns)
