@@ -1,0 +1,69 @@
+-- What a ladder that passes the checks has. Assumes nothing.
+use mathlib.Core.Path.{_≡_, refl, sym, _∙_}
+use mathlib.Core.List.{List}
+use Prim.Native.Nat.{ℕ, _+_, _-_, _*_, _/_, _<_, _≤_}
+use native.Mathlib.Nat.{mul-le-mul}
+use native.Mathlib.Omega.{arith}
+use borrow.Author.Tests.{ltb-false, eqb-true, not-false}
+use Rattle.places.proofs.PlaceLaws.{or-false}
+use Rattle.bspline.specs.declared.Refusal.{Refusal}
+use Rattle.bspline.specs.declared.Verdict.{Verdict}
+use Rattle.bspline.specs.declared.Verdict.the-variants.{Pass, Stop}
+use Rattle.bspline.specs.Refusals.{stop-if, _next_}
+use Rattle.bspline.proofs.CheckLaws.{both-pass, test-fails}
+use Rattle.fitting.specs.declared.Room.{Room}
+use Rattle.fitting.specs.Ladders.{shapeVerdict, chosenVerdict, unchosenVerdict, roomVerdict, Shaped, Roomy}
+
+pub next-stop : (v w : Verdict) (c : Refusal) → v ≡ Stop c → Stop c ≡ (v next w)
+unfolding _next_
+next-stop v w c e = rw e
+
+pub next-pass : (v w : Verdict) → v ≡ Pass → w ≡ (v next w)
+unfolding _next_
+next-pass v w e = rw e
+
+-- the work's length fits a number
+pub small : (p n : ℕ) → p ≤ 25 → n ≤ 1024 → 4 * p * n ≤ 102400
+small p n h l = mul-le-mul {n₁ = 4 * p} {m₁ = n} {n₂ = 100} {m₂ = 1024} (omega arith) l
+
+pub shape-pass : (places p : ℕ) → shapeVerdict places p ≡ Pass → Shaped places p
+unfolding shapeVerdict
+shape-pass places p e =
+    let e₁ = both-pass _ _ e in
+    let e₂ = both-pass _ _ (e₁ .1) in
+    let e₃ = both-pass _ _ (e₂ .1) in
+    let degree = or-false _ _ (test-fails _ _ (e₃ .1)) in
+    record {
+      triples = eqb-true _ _ (not-false _ (test-fails _ _ (e₁ .0)));
+      most = ltb-false _ _ (test-fails _ _ (e₂ .0));
+      least = ltb-false _ _ (test-fails _ _ (e₃ .0));
+      low = ltb-false _ _ (degree .0);
+      high = ltb-false _ _ (degree .1);
+    }
+
+pub unchosen-pass : (n p : ℕ) → unchosenVerdict n p ≡ Pass → p ≤ n - 1
+unfolding unchosenVerdict
+unchosen-pass n p e = ltb-false (n - 1) p (test-fails _ _ e)
+
+pub chosen-pass : (n p m : ℕ) → chosenVerdict n p m ≡ Pass → (p ≤ m - 1) × (m ≤ n)
+unfolding chosenVerdict
+chosen-pass n p m e =
+    let e₁ = both-pass _ _ e in
+    (ltb-false (m - 1) p (test-fails _ _ (e₁ .0)), ltb-false n m (test-fails _ _ (e₁ .1)))
+
+pub room-pass : (n p : ℕ) (r : Room) → roomVerdict n p r ≡ Pass → Roomy n p r
+unfolding roomVerdict
+room-pass n p r e =
+    let e₁ = both-pass _ _ e in
+    let e₂ = both-pass _ _ (e₁ .1) in
+    let e₃ = both-pass _ _ (e₂ .1) in
+    let e₄ = both-pass _ _ (e₃ .1) in
+    let e₅ = both-pass _ _ (e₄ .1) in
+    record {
+      for-poles = ltb-false _ _ (test-fails _ _ (e₁ .0));
+      for-flat = ltb-false _ _ (test-fails _ _ (e₂ .0));
+      for-knots = ltb-false _ _ (test-fails _ _ (e₃ .0));
+      for-mults = ltb-false _ _ (test-fails _ _ (e₄ .0));
+      for-work = ltb-false _ _ (test-fails _ _ (e₅ .0));
+      for-index = ltb-false _ _ (test-fails _ _ (e₅ .1));
+    }

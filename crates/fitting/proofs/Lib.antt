@@ -1,0 +1,6 @@
+-- The laws of fits, and demand 3. Other crates' proofs cite them as Rattle.fitting.proofs.NAME.
+pub mod CheckLaws
+pub mod DeviationLaws
+pub mod KeptLaws
+pub mod HandedLaws
+pub mod LadderLaws

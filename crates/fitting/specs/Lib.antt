@@ -1,0 +1,6 @@
+-- Fits of one direction, their marks, demand 3, and the ladder calls.
+pub mod Within
+pub mod Marks
+pub mod Kept
+pub mod Ladders
+pub mod HandedOut

@@ -1,0 +1,29 @@
+// What a fit hands out: its poles and flat knots, and the knots once more as distinct knots with multiplicities.
+ghost use mathlib.Core.Path.{_≡_};
+ghost use Prim.Native.Nat.{_+_, _*_};
+ghost use Rattle.places.specs.Regions.{part};
+ghost use Rattle.fitting.specs.HandedOut.{HasOutput, HandedOut};
+
+// The m poles from place `a` of the work on, and the flat knots from place `b` on; how many distinct knots they are.
+pub fn hand_out(
+    work: &[f64],
+    a: usize,
+    b: usize,
+    m: usize,
+    degree: usize,
+    poles: &mut [f64],
+    flat: &mut [f64],
+    knots: &mut [f64],
+    mults: &mut [u32],
+) -> usize
+    requires { ⌜ HasOutput a b m degree (now work) (now poles) (now flat) (now knots) (now mults) ⌝ }
+    ensures { λ r. ⌜ HandedOut (part a (a + 3 * m) (now (work .entry))) (part b (b + (m + degree + 1)) (now (work .entry)))
+        (now (poles .entry)) (now (poles .exit)) (now (flat .entry)) (now (flat .exit))
+        (now (knots .entry)) (now (knots .exit)) (now (mults .entry)) (now (mults .exit)) r ⌝ }
+{
+    let e = a + 3 * m;
+    let f = b + (m + degree + 1);
+    places::copy(&work[a..e], poles);
+    places::copy(&work[b..f], flat);
+    knots::runs::compress_knots(&work[b..f], knots, mults)
+}
