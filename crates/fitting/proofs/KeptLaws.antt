@@ -1,6 +1,6 @@
 -- Demand 3 of the definitions: nothing marked refined or spread has a deviation above the tolerance, a spread count passes and the one below it fails,
 -- an interpolated fit follows a refinement that gave none and a largest count that fails; and a larger tolerance takes the spread search alone to no more
--- poles. After the prototype `search`. Assumes nothing.
+-- poles. Assumes nothing.
 use mathlib.Core.Path.{_≡_, refl, sym, _∙_, ap, subst}
 use mathlib.Core.Bool.{Bool, true, false, cond, true≢false}
 use mathlib.Core.List.{List}

@@ -4,3 +4,7 @@ pub mod DeviationLaws
 pub mod KeptLaws
 pub mod HandedLaws
 pub mod LadderLaws
+pub mod AttemptLaws
+pub mod RoundsLaws
+pub mod CountLaws
+pub mod RunLaws

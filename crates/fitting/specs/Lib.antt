@@ -4,3 +4,5 @@ pub mod Marks
 pub mod Kept
 pub mod Ladders
 pub mod HandedOut
+pub mod Jobs
+pub mod Runs

@@ -1,8 +1,15 @@
 // Ladder fits: document 01, part 3 (refinement, the pole-count search, `interpolate`, `approximate`, `approximate_within`, the spread search alone).
+pub mod attempts;
 pub mod checks;
+pub mod counts;
+pub mod ladders;
 pub mod output;
+pub mod refining;
 
 use bspline::Refusal;
+use tables::Data;
+use tables::Measured;
+use tables::Table;
 
 // Which step gave the knots and poles that are handed out, with the largest computed deviation: document 01's refined, spread, interpolated and chosen.
 pub enum Mark {
@@ -33,4 +40,36 @@ pub struct Room {
     pub mults: usize,
     pub work: usize,
     pub index: usize,
+}
+
+// The fitting of one direction in the lent slices: its table and data, and where the work holds its parameters, its flat knots, the band, the poles,
+// the deviations and new knots.
+pub struct Job {
+    pub table: Table,
+    pub given: Data,
+    pub params: usize,
+    pub flat: usize,
+    pub band: usize,
+    pub poles: usize,
+    pub deviations: usize,
+    pub fresh: usize,
+}
+
+// What least squares on given knots came to: nothing, or a fit with what its distances measure.
+pub enum Attempt {
+    Unfitted,
+    Fitting(Measured),
+}
+
+// What one round of refinement comes to: an end without a fit, a fit within the tolerance, or so many flat knots for the next round.
+pub enum Turn {
+    Ended,
+    Fits(Measured),
+    Next(usize),
+}
+
+// What refinement comes to: nothing, or a fit on so many flat knots with what its distances measure.
+pub enum Rounds {
+    Stuck,
+    Fitted(usize, Measured),
 }

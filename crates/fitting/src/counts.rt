@@ -1,0 +1,77 @@
+// Pole counts on spread knots: document 01's test of a count, and the search for the fewest poles that pass it.
+ghost use Prim.Native.Nat.{_≤_, _<_};
+ghost use Rattle.fitting.specs.Jobs.{HasJob, HasSpread, Tested, FewestFound, FoundAgain};
+use crate::Attempt;
+use crate::Job;
+use search::Found;
+use search::Next;
+use search::Search;
+use tables::Measured;
+
+// Document 01's test of a pole count on spread knots.
+pub fn passes(
+    work: &mut [f64],
+    index: &mut [usize],
+    points: &[f64],
+    job: Job,
+    tolerance: f64,
+    m: usize,
+) -> bool
+    requires { ⌜ HasJob job (now points) (now work) (now index) × (job .table .degree < m) × (m ≤ job .table .count) ⌝ }
+    ensures { λ r. ⌜ Tested job (now (points .entry)) tolerance m (now (work .entry)) (now (work .exit)) (now (index .entry)) (now (index .exit)) r ⌝ }
+{
+    let start = job.deviations;
+    let end = start + job.table.count;
+    match crate::attempts::attempt_spread(work, index, points, job, m) {
+        Attempt::Unfitted => false,
+        Attempt::Fitting(_) => tables::deviations::all_within(&work[start..end], tolerance),
+    }
+}
+
+// The fewest poles that the search finds below `last`.
+pub fn fewest_poles(
+    work: &mut [f64],
+    index: &mut [usize],
+    points: &[f64],
+    job: Job,
+    tolerance: f64,
+    last: usize,
+) -> Found
+    requires { ⌜ HasJob job (now points) (now work) (now index) × (job .table .degree < last) × (last ≤ job .table .count) ⌝ }
+    ensures { λ r. ⌜ FewestFound job (now (points .entry)) tolerance last (now (work .entry)) (now (work .exit)) (now (index .entry)) (now (index .exit)) r ⌝ }
+{
+    let mut s = Search::new(job.table.degree, last);
+    loop {
+        match s.next() {
+            Next::Done => break,
+            Next::Try(m) => {
+                if passes(work, index, points, job, tolerance, m) {
+                    s = s.fitted(m);
+                } else {
+                    s = s.failed(m);
+                }
+            }
+        }
+    }
+    s.found(last)
+}
+
+// The fit with the poles that the search found, once more: it stands in its place. A count that was found has a fit.
+pub fn fit_found(
+    work: &mut [f64],
+    index: &mut [usize],
+    points: &[f64],
+    job: Job,
+    m: usize,
+) -> Measured
+    requires { ⌜ HasJob job (now points) (now work) (now index) × HasSpread job (now points) m (now work) ⌝ }
+    ensures { λ r. ⌜ FoundAgain job (now (points .entry)) m (now (work .entry)) (now (work .exit)) (now (index .entry)) (now (index .exit)) r ⌝ }
+{
+    match crate::attempts::attempt_spread(work, index, points, job, m) {
+        Attempt::Unfitted => Measured {
+            largest: 0.0,
+            unreadable: 0,
+        },
+        Attempt::Fitting(x) => x,
+    }
+}
