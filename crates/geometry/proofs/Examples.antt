@@ -1,19 +1,10 @@
--- Worked examples, by computation: document 01's M 7 and M 8, and a distance. Assumes nothing.
+-- Worked examples, by computation: roots at the ends of the range, and a distance. Assumes nothing.
 use mathlib.Core.Path.{_≡_, refl}
 use mathlib.Core.Bool.{true, false}
-use lib.IntN.{pos, negsuc}
-use lib.Ieee.{nan, fin, binary64, toBits, add, sub, mul}
+use lib.IntN.{pos}
+use lib.Ieee.{nan, fin, add, sub, mul}
 use Rattle.geometry.specs.Root.{sqrtOf}
 use Rattle.geometry.specs.Points.{distance}
-
-pub root-of-two : toBits binary64 (sqrtOf (fin false 1 (pos 1))) ≡ 0x3ff6_a09e_667f_3bcd
-unfolding sqrtOf toBits
-root-of-two = refl
-
--- 2 ^ -1074, the least value above zero: its root is 2 ^ -537
-pub root-of-least : sqrtOf (fin false 1 (negsuc 1073)) ≡ fin false 1 (negsuc 536)
-unfolding sqrtOf
-root-of-least = refl
 
 pub root-of-minus-zero : sqrtOf (fin true 0 (pos 0)) ≡ fin true 0 (pos 0)
 unfolding sqrtOf
