@@ -1,6 +1,6 @@
 //! Finds the published Rust (the folder GEOMCORE, with its src/), and writes the module declarations that compile it unchanged into this program.
 //! Of each fitting.rs a copy is made beside them whose text is the published one and, after it, the line that declares our module `pieces`:
-//! so the comparison reaches its private functions. Links the static library of this repository.
+//! so the comparison reaches its private functions. Links the static libraries of this repository.
 use std::path::{Path, PathBuf};
 use std::{env, fs};
 
@@ -38,7 +38,9 @@ fn main() {
 
     println!("cargo:rerun-if-env-changed=GEOMCORE");
     println!("cargo:rerun-if-changed={}", source.display());
-    println!("cargo:rerun-if-changed=../target/staticlib/libpieces.a");
     println!("cargo:rustc-link-search=native={}", here.join("../target/staticlib").display());
-    println!("cargo:rustc-link-lib=static=pieces");
+    for library in ["interface", "pieces"] {
+        println!("cargo:rerun-if-changed=../target/staticlib/lib{library}.a");
+        println!("cargo:rustc-link-lib=static={library}");
+    }
 }

@@ -16,6 +16,7 @@ pub use vector::{Vector2D, Vector3D};
 
 mod bands;
 mod knots;
+mod ladders;
 mod ours;
 mod points;
 mod random;
@@ -32,15 +33,20 @@ fn main() {
         Some("knots") => knots::compare(number(1, 100_000), number(2, 1)),
         Some("bands") => bands::compare(number(1, 20_000), number(2, 1)),
         Some("tables") => tables::compare(number(1, 20_000), number(2, 1)),
+        Some("ladders") => ladders::compare(number(1, 20_000), number(2, 1)),
+        Some("try") => ladders::compare_stated(),
+        Some("list") if words.len() == 2 => ladders::list(&words[1]),
         Some("bench") => {
             roots::bench();
             readings::bench();
             bands::bench();
             tables::bench();
+            ladders::bench();
             0
         }
         _ => {
-            eprintln!("beside roots COUNT SEED | readings COUNT SEED | knots COUNT SEED | bands COUNT SEED | tables COUNT SEED | bench");
+            eprintln!("beside roots COUNT SEED | readings COUNT SEED | knots COUNT SEED | bands COUNT SEED | tables COUNT SEED");
+            eprintln!("     | ladders COUNT SEED | try | list FILE | bench");
             std::process::exit(2)
         }
     };

@@ -48,6 +48,26 @@ unsafe extern "C" {
         columns: usize, m: usize, poles: usize, curve: usize, out: usize, most: *mut f64, most_len: usize,
     ) -> usize;
     fn pieces_curve_point(flat: *const f64, flat_len: usize, degree: usize, poles: *const f64, poles_len: usize, u: f64, out: *mut f64, out_len: usize);
+    fn nigorzai_interpolate(
+        points: *const f64, points_len: usize, degree: usize, spacing: usize,
+        poles: *mut f64, poles_len: usize, flat: *mut f64, flat_len: usize, knots: *mut f64, knots_len: usize, mults: *mut u32, mults_len: usize,
+        work: *mut f64, work_len: usize, index: *mut usize, index_len: usize, largest: *mut f64, largest_len: usize, counts: *mut usize, counts_len: usize,
+    ) -> u32;
+    fn nigorzai_approximate(
+        points: *const f64, points_len: usize, degree: usize, count: usize, spacing: usize,
+        poles: *mut f64, poles_len: usize, flat: *mut f64, flat_len: usize, knots: *mut f64, knots_len: usize, mults: *mut u32, mults_len: usize,
+        work: *mut f64, work_len: usize, index: *mut usize, index_len: usize, largest: *mut f64, largest_len: usize, counts: *mut usize, counts_len: usize,
+    ) -> u32;
+    fn nigorzai_approximate_within(
+        points: *const f64, points_len: usize, degree: usize, tolerance: f64, spacing: usize,
+        poles: *mut f64, poles_len: usize, flat: *mut f64, flat_len: usize, knots: *mut f64, knots_len: usize, mults: *mut u32, mults_len: usize,
+        work: *mut f64, work_len: usize, index: *mut usize, index_len: usize, largest: *mut f64, largest_len: usize, counts: *mut usize, counts_len: usize,
+    ) -> u32;
+    fn nigorzai_search_spread(
+        points: *const f64, points_len: usize, degree: usize, tolerance: f64, spacing: usize,
+        poles: *mut f64, poles_len: usize, flat: *mut f64, flat_len: usize, knots: *mut f64, knots_len: usize, mults: *mut u32, mults_len: usize,
+        work: *mut f64, work_len: usize, index: *mut usize, index_len: usize, largest: *mut f64, largest_len: usize, counts: *mut usize, counts_len: usize,
+    ) -> u32;
 }
 
 pub fn sqrt(x: f64) -> f64 {
@@ -322,4 +342,43 @@ pub fn grid_deviations(u: &Work, v: &Work, points: &[f64]) -> (Vec<f64>, f64, us
     assert!(most[1] == GUARD && work[out + u.count] == GUARD);
     assert!(before[..curve].iter().zip(&work).all(|(a, b)| a.to_bits() == b.to_bits()), "a place outside the region was written");
     (work[out..out + u.count].to_vec(), most[0], unreadable)
+}
+
+/// The four ladder calls by their numbers.
+pub const INTERPOLATE: usize = 0;
+pub const APPROXIMATE: usize = 1;
+pub const WITHIN: usize = 2;
+pub const SEARCH: usize = 3;
+
+/// The eight slices that a ladder call is lent.
+pub struct Lent<'a> {
+    pub poles: &'a mut [f64],
+    pub flat: &'a mut [f64],
+    pub knots: &'a mut [f64],
+    pub mults: &'a mut [u32],
+    pub work: &'a mut [f64],
+    pub index: &'a mut [usize],
+    pub largest: &'a mut [f64],
+    pub counts: &'a mut [usize],
+}
+
+/// One of the four ladder calls, of which `count` and `tolerance` are left out where it has none: 0 for a fit, or the number of a refusal.
+pub fn ladder(entry: usize, points: &[f64], degree: usize, count: usize, tolerance: f64, spacing: usize, lent: &mut Lent) -> u32 {
+    macro_rules! call {
+        ($f:ident, $($own:expr),*) => {
+            unsafe {
+                $f(
+                    points.as_ptr(), points.len(), $($own),*, lent.poles.as_mut_ptr(), lent.poles.len(), lent.flat.as_mut_ptr(), lent.flat.len(),
+                    lent.knots.as_mut_ptr(), lent.knots.len(), lent.mults.as_mut_ptr(), lent.mults.len(), lent.work.as_mut_ptr(), lent.work.len(),
+                    lent.index.as_mut_ptr(), lent.index.len(), lent.largest.as_mut_ptr(), lent.largest.len(), lent.counts.as_mut_ptr(), lent.counts.len(),
+                )
+            }
+        };
+    }
+    match entry {
+        INTERPOLATE => call!(nigorzai_interpolate, degree, spacing),
+        APPROXIMATE => call!(nigorzai_approximate, degree, count, spacing),
+        WITHIN => call!(nigorzai_approximate_within, degree, tolerance, spacing),
+        _ => call!(nigorzai_search_spread, degree, tolerance, spacing),
+    }
 }

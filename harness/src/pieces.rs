@@ -40,3 +40,52 @@ pub fn firsts(basis: &BasisTable) -> &[usize] {
 pub fn values(basis: &BasisTable) -> &[f64] {
     &basis.values
 }
+
+/// Flat knots and poles.
+pub type Parts = (Vec<f64>, Vec<Point3D>);
+
+/// One try of `approximate_within`: poles by least squares, and each point's deviation.
+fn attempt(points: &[Point3D], degree: usize) -> impl FnMut(&[f64], &BasisTable, &mut [f64]) -> Option<Vec<Point3D>> + '_ {
+    move |flat, basis, deviations| {
+        let poles = least_squares(basis, flat.len() - degree - 1, 1, |_, k| points[k])?;
+        for (k, deviation) in deviations.iter_mut().enumerate() {
+            *deviation = basis.point(k, &poles).distance(points[k]);
+        }
+        Some(poles)
+    }
+}
+
+pub fn refined(points: &[Point3D], params: &[f64], degree: usize, tolerance: f64) -> Option<Parts> {
+    super::fit_with_refined_knots(params, degree, tolerance, attempt(points, degree))
+}
+
+pub fn spread(points: &[Point3D], params: &[f64], degree: usize, tolerance: f64) -> Option<Parts> {
+    super::fit_on_spread_knots(params, degree, tolerance, params.len(), attempt(points, degree))
+}
+
+pub fn interpolated(points: &[Point3D], params: &[f64], degree: usize) -> Parts {
+    super::interpolated(points, params, degree)
+}
+
+/// The fit of `approximate`.
+pub fn chosen(points: &[Point3D], params: &[f64], degree: usize, count: usize) -> Option<Parts> {
+    let flat = approximation_knots(params, count, degree);
+    let poles = least_squares(&BasisTable::new(&flat, degree, params), count, 1, |_, k| points[k])?;
+    Some((flat, poles))
+}
+
+/// Each point's distance from the fit read at the point's own parameter.
+pub fn deviations(points: &[Point3D], params: &[f64], degree: usize, (flat, poles): &Parts) -> Vec<f64> {
+    let basis = BasisTable::new(flat, degree, params);
+    (0..points.len()).map(|k| basis.point(k, poles).distance(points[k])).collect()
+}
+
+/// Whether interpolation leaves out a value other than 0: one outside the band that it solves.
+pub fn drops_values(params: &[f64], degree: usize, flat: &[f64]) -> bool {
+    let (basis, h) = (BasisTable::new(flat, degree, params), degree - 1);
+    let outside = |j: usize, column: usize| column + h < j || column > j + h;
+    (0..params.len()).any(|j| {
+        let (first, values) = basis.at(j);
+        values.iter().enumerate().any(|(a, &value)| outside(j, first + a) && value != 0.0)
+    })
+}

@@ -7,11 +7,20 @@ fn p(x: f64, y: f64, z: f64) -> Point3D {
 }
 
 /// `before` points alternating between two far corners, `close` points a little over the bound of coincidence apart, `after` more alternating.
-fn alternating(before: usize, close: usize, after: usize) -> Vec<Point3D> {
+pub fn alternating(before: usize, close: usize, after: usize) -> Vec<Point3D> {
     let far = |k: usize| if k % 2 == 0 { p(-1e6, -1e6, -1e6) } else { p(1e6, 1e6, 1e6) };
     let mut points: Vec<Point3D> = (0..before).map(far).collect();
-    points.extend((0..close).map(|k| p(k as f64 * 1.000001e-7, 0.0, 0.0)));
+    points.extend((1..=close).map(|k| p(k as f64 * 1.000001e-7, 0.0, 0.0)));
     points.extend((0..after).map(far));
+    points
+}
+
+/// `before` points alternating between two corners of this size, one at the far corner, and `close` points a little over the bound of coincidence apart.
+pub fn swinging(before: usize, size: f64, close: usize) -> Vec<Point3D> {
+    let corner = |x: f64| p(x, x, x);
+    let mut points: Vec<Point3D> = (0..before).map(|k| corner(if k % 2 == 0 { -size } else { size })).collect();
+    points.push(corner(1e6));
+    points.extend(alternating(0, close, 0));
     points
 }
 

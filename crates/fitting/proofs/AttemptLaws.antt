@@ -33,8 +33,10 @@ use Rattle.tables.proofs.TableLaws.{length-firsts, length-values, table-filled,
 use Rattle.fitting.specs.declared.Job.{Job}
 use Rattle.fitting.specs.declared.Attempt.{Attempt}
 use Rattle.fitting.specs.declared.Attempt.the-variants.{Unfitted, Fitting}
+use Rattle.fitting.specs.declared.Reached.{Reached}
+use Rattle.fitting.specs.declared.Reached.the-variants.{Missed, Met}
 use Rattle.fitting.specs.Within.{Candidate, candidate, candidateOf, poleCount, tableOn, fitOn, fitOnSpread, interpolate}
-use Rattle.fitting.specs.Jobs.{directionOf, flatIn, polesIn, candidateIn, attempted, HasJob, HasKnots, Attempts, AttemptsSpread, PassesThrough}
+use Rattle.fitting.specs.Jobs.{directionOf, flatIn, polesIn, candidateIn, attempted, HasJob, HasKnots, Attempts, AttemptsSpread, PassesThrough, Reaches}
 
 -- a ladder's data is its points, whatever stands in the work
 pub data-ladder : (d : Data) (points work : List Float) → d .kind ≡ 0 → dataPoint d points work ≡ ladderPoint points
@@ -58,8 +60,8 @@ through-room n p h =
     omega arith
 
 -- the regions lie as well in other slices that are as long
-pub has-job-kept : (j : Job) (points w w′ : List Float) (index : List ℕ) → HasJob j points w index → length w′ ≡ length w → HasJob j points w′ index
-has-job-kept j points w w′ index has e = record {
+pub has-job-kept : (j : Job) (points w w′ : List Float) (index index′ : List ℕ) → HasJob j points w index → length w′ ≡ length w → length index′ ≡ length index → HasJob j points w′ index′
+has-job-kept j points w w′ index index′ has e f = record {
   low = has .low;
   high = has .high;
   under = has .under;
@@ -74,8 +76,22 @@ has-job-kept j points w w′ index has e = record {
   poles-in = has .poles-in;
   deviations-in = has .deviations-in;
   fresh-in = omega (arith, has .fresh-in);
-  firsts-in = has .firsts-in;
+  firsts-in = omega (arith, has .firsts-in);
 }
+
+-- what is written behind the parameters leaves the direction
+pub direction-kept : (j : Job) (points w w′ : List Float) (e : ℕ) → j .params + j .table .count ≤ j .flat → Kept (j .flat) e w w′ → directionOf j points w′ ≡ directionOf j points w
+unfolding directionOf
+direction-kept j points w w′ e h k =
+    ap (ladder points (j .table .degree)) (kept-part (j .flat) e w w′ k (j .params) (j .params + j .table .count) (omega arith) h)
+
+-- as many parameters as points
+pub params-long : (j : Job) (points w : List Float) (index : List ℕ) → HasJob j points w index → length (directionOf j points w .params) ≡ j .table .count
+unfolding directionOf ladder
+params-long j points w index has =
+    length-part (j .params) (j .params + j .table .count) w
+    (omega (arith, has .params-in, has .flat-in, has .values-in, has .band-in, has .poles-in, has .deviations-in, has .fresh-in))
+    ∙ omega arith
 
 module _ (j : Job) (points w : List Float) (index : List ℕ) (has : HasJob j points w index) (l : ℕ) (knots : HasKnots j l) where
   abbrev made : BasisTable
@@ -284,12 +300,10 @@ module _ (j : Job) (points w : List Float) (index : List ℕ) (has : HasJob j po
   kept-knots = rw a (kept-splice (j .flat) (j .flat + l) ys w (omega arith) flat-room (omega arith))
 
   pub has-job-put : HasJob j points wₖ index
-  has-job-put = has-job-kept j points w wₖ index has (kept-knots .long)
+  has-job-put = has-job-kept j points w wₖ index index has (kept-knots .long) refl
 
   pub direction-put : directionOf j points wₖ ≡ directionOf j points w
-  unfolding directionOf
-  direction-put =
-      ap (ladder points (j .table .degree)) (kept-part (j .flat) (j .flat + l) w wₖ kept-knots (j .params) (j .params + j .table .count) (omega arith) (has .params-in))
+  direction-put = direction-kept j points w wₖ (j .flat + l) (has .params-in) kept-knots
 
   pub flat-put : flatIn j l wₖ ≡ ys
   unfolding flatIn
@@ -432,3 +446,29 @@ module _ (j : Job) (points w : List Float) (index : List ℕ) (has : HasJob j po
         firsts = firsts-put j points w index has l some-knots wₖ spreadOut size-spread put-spread index′ (x .firsts);
         kept = kept-put j points w index has l some-knots wₖ spreadOut size-spread put-spread w′ (x .kept);
       }
+
+-- ---- whether the tolerance was met
+
+module _ {j : Job} {points w w′ : List Float} {index index′ : List ℕ} where
+  pub missed : length index′ ≡ length index → Kept (j .flat) (j .fresh + j .table .count) w w′ → Reaches j points w w′ index index′ Missed
+  missed e k = record {
+    measures = λ l x z. let u : _≡_ {A = ℕ} 0 1 = cc in absurd (omega arith);
+    few = λ l x z. let u : _≡_ {A = ℕ} 0 1 = cc in absurd (omega arith);
+    firsts = e;
+    kept = k;
+  }
+
+  pub met : {l : ℕ} {y : Measured} → HasKnots j l → y ≡ measured (candidateIn j points l w′ .distances) → length index′ ≡ length index
+      → Kept (j .flat) (j .fresh + j .table .count) w w′ → Reaches j points w w′ index index′ (Met l y)
+  met {l} {y} knots m e k = record {
+    measures = λ n x z. let a : l ≡ n = cc in let b : y ≡ x = cc in sym b ∙ m ∙ ap (λ (i : ℕ). measured (candidateIn j points i w′ .distances)) a;
+    few = λ n x z. let a : l ≡ n = cc in subst (HasKnots j) a knots;
+    firsts = e;
+    kept = k;
+  }
+
+  -- from slices that were changed before
+  pub reaches-later : {w₀ : List Float} {index₀ : List ℕ} {r : Reached} → Reaches j points w w′ index index′ r → length index ≡ length index₀
+      → Kept (j .flat) (j .fresh + j .table .count) w₀ w → Reaches j points w₀ w′ index₀ index′ r
+  reaches-later {w₀} {index₀} {r} x e k =
+      record { measures = x .measures; few = x .few; firsts = x .firsts ∙ e; kept = kept-then (j .flat) (j .fresh + j .table .count) w₀ w w′ k (x .kept) }

@@ -4,6 +4,8 @@ use mathlib.Core.List.{List}
 use Prim.Native.Nat.{ℕ, _+_, _-_, _*_, _/_, _<_, _≤_}
 use native.Mathlib.Nat.{mul-le-mul}
 use native.Mathlib.Omega.{arith}
+use lib.ListN.{length}
+use lib.Ieee.{Float}
 use borrow.Author.Tests.{ltb-false, eqb-true, not-false}
 use Rattle.places.proofs.PlaceLaws.{or-false}
 use Rattle.bspline.specs.declared.Refusal.{Refusal}
@@ -12,7 +14,9 @@ use Rattle.bspline.specs.declared.Verdict.the-variants.{Pass, Stop}
 use Rattle.bspline.specs.Refusals.{stop-if, _next_}
 use Rattle.bspline.proofs.CheckLaws.{both-pass, test-fails}
 use Rattle.fitting.specs.declared.Room.{Room}
-use Rattle.fitting.specs.Ladders.{shapeVerdict, chosenVerdict, unchosenVerdict, roomVerdict, Shaped, Roomy}
+use Rattle.fitting.specs.declared.Call.{Call}
+use Rattle.fitting.specs.declared.Call.the-variants.{Interpolate, Approximate, ApproximateWithin, SearchSpread}
+use Rattle.fitting.specs.Ladders.{Lent, pointCount, shapeVerdict, chosenVerdict, unchosenVerdict, countVerdict, roomVerdict, roomOf, ladderChecks, Shaped, Roomy}
 
 pub next-stop : (v w : Verdict) (c : Refusal) → v ≡ Stop c → Stop c ≡ (v next w)
 unfolding _next_
@@ -67,3 +71,27 @@ room-pass n p r e =
       for-work = ltb-false _ _ (test-fails _ _ (e₅ .0));
       for-index = ltb-false _ _ (test-fails _ _ (e₅ .1));
     }
+
+-- ---- all of them
+
+pub checks-give : (call : Call) (s : List Float) (degree : ℕ) (l : Lent) → ladderChecks call s degree l ≡ Pass
+    → Shaped (length s) degree × (countVerdict call (pointCount s) degree ≡ Pass) × Roomy (pointCount s) degree (roomOf l)
+unfolding ladderChecks
+checks-give call s degree l e =
+    let a = both-pass (shapeVerdict (length s) degree) _ e in
+    let b = both-pass (countVerdict call (pointCount s) degree) _ (a .1) in
+    let c = both-pass (roomVerdict (pointCount s) degree (roomOf l)) _ (b .1) in
+    (shape-pass (length s) degree (a .0), b .0, room-pass (pointCount s) degree (roomOf l) (c .0))
+
+-- the degree is below the points
+pub count-under : (call : Call) (n p : ℕ) → countVerdict call n p ≡ Pass → 1 ≤ p → p < n
+unfolding countVerdict
+count-under Interpolate n p e h = omega (arith, unchosen-pass n p e)
+count-under (Approximate m) n p e h = let c = chosen-pass n p m e in omega (arith, c .0, c .1)
+count-under (ApproximateWithin t) n p e h = omega (arith, unchosen-pass n p e)
+count-under (SearchSpread t) n p e h = omega (arith, unchosen-pass n p e)
+
+-- and below the chosen poles, which are no more than the points
+pub count-chosen : (m n p : ℕ) → countVerdict (Approximate m) n p ≡ Pass → 1 ≤ p → (p < m) × (m ≤ n)
+unfolding countVerdict
+count-chosen m n p e h = let c = chosen-pass n p m e in (omega (arith, c .0), c .1)

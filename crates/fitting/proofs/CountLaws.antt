@@ -1,9 +1,8 @@
 -- Tries of pole counts one after another: a try leaves the parameters as they are, so each tests the same direction. Assumes nothing.
 use mathlib.Core.Path.{_≡_, refl, sym, _∙_, ap}
-use mathlib.Core.Bool.{Bool, true, false, true≢false}
+use mathlib.Core.Bool.{Bool, true, false}
 use mathlib.Core.List.{List}
-use mathlib.Core.Option.{none}
-use Prim.Native.Nat.{ℕ, _+_, _≤_, _<_}
+use Prim.Native.Nat.{ℕ, _+_, _-_, _≤_, _<_}
 use native.Mathlib.Omega.{arith}
 use lib.ListN.{length}
 use lib.Ieee.{Float}
@@ -12,7 +11,7 @@ use Rattle.tables.specs.declared.Measured.{Measured}
 use Rattle.tables.specs.Deviations.{allWithin}
 use Rattle.tables.specs.Directions.{Direction, ladder}
 use Rattle.tables.specs.Layout.{Kept}
-use Rattle.tables.proofs.KeptLaws.{kept-same, kept-then, kept-part}
+use Rattle.tables.proofs.KeptLaws.{kept-same, kept-wider, kept-then}
 use Rattle.search.specs.declared.Search.{Search}
 use Rattle.search.specs.declared.Found.{Found}
 use Rattle.search.specs.declared.Found.the-variants.{At, Nothing}
@@ -23,37 +22,10 @@ use Rattle.search.proofs.Fewest.{found}
 use Rattle.fitting.specs.declared.Job.{Job}
 use Rattle.fitting.specs.declared.Attempt.{Attempt}
 use Rattle.fitting.specs.declared.Attempt.the-variants.{Unfitted, Fitting}
+use Rattle.fitting.specs.declared.Reached.the-variants.{Missed, Met}
 use Rattle.fitting.specs.Within.{Marked, spread, fitOnSpread, candidatePasses, passesOnSpread, spreadOr, foundOr, fitOnSpreadKnots}
-use Rattle.fitting.specs.Jobs.{directionOf, candidateIn, attempted, HasJob, AttemptsSpread, HasSpread, Tested, FewestFound, FoundAgain}
-use Rattle.fitting.proofs.AttemptLaws.{has-job-kept}
-
--- other work that is as long, with an index that is as long, has the same job
-pub has-job-again : (j : Job) (points w w′ : List Float) (index index′ : List ℕ) → HasJob j points w index → length w′ ≡ length w → length index′ ≡ length index → HasJob j points w′ index′
-has-job-again j points w w′ index index′ has e f =
-    let h = has-job-kept j points w w′ index has e in
-    record {
-      low = h .low;
-      high = h .high;
-      under = h .under;
-      few = h .few;
-      kind = h .kind;
-      lines = h .lines;
-      points-in = h .points-in;
-      params-in = h .params-in;
-      flat-in = h .flat-in;
-      values-in = h .values-in;
-      band-in = h .band-in;
-      poles-in = h .poles-in;
-      deviations-in = h .deviations-in;
-      fresh-in = h .fresh-in;
-      firsts-in = rw f (h .firsts-in);
-    }
-
--- what is written behind the parameters leaves the direction
-pub direction-kept : (j : Job) (points w w′ : List Float) (e : ℕ) → j .params + j .table .count ≤ j .flat → Kept (j .flat) e w w′ → directionOf j points w′ ≡ directionOf j points w
-unfolding directionOf
-direction-kept j points w w′ e h k =
-    ap (ladder points (j .table .degree)) (kept-part (j .flat) e w w′ k (j .params) (j .params + j .table .count) (omega arith) h)
+use Rattle.fitting.specs.Jobs.{directionOf, candidateIn, attempted, HasJob, AttemptsSpread, Tested, FewestFound, spreadIn, SpreadsBelow}
+use Rattle.fitting.proofs.AttemptLaws.{has-job-kept, direction-kept, spread-knots, missed, met}
 
 -- ---- one count's test, from what the attempt at it came to
 module _ (j : Job) (points : List Float) (tolerance : Float) (m : ℕ) (w w′ : List Float) (index index′ : List ℕ) (r : Attempt)
@@ -93,7 +65,7 @@ module _ (j : Job) (points : List Float) (tolerance : Float) (last : ℕ) (w : L
 
   module _ (has : HasJob j points w index) (s : Search) (w₁ : List Float) (index₁ : List ℕ) (going : Searching s w₁ index₁) where
     pub has-searching : HasJob j points w₁ index₁
-    has-searching = has-job-again j points w w₁ index index₁ has (going .kept .long) (going .firsts)
+    has-searching = has-job-kept j points w w₁ index index₁ has (going .kept .long) (going .firsts)
 
     pub searching-done : nextOf s ≡ Done → (r : Found) → r ≡ answer last s → FewestFound j points tolerance last w w₁ index index₁ r
     searching-done e r a = record { answer = a ∙ running-done _ _ _ s e (going .running); firsts = going .firsts; kept = going .kept }
@@ -115,54 +87,51 @@ module _ (j : Job) (points : List Float) (tolerance : Float) (last : ℕ) (w : L
       searching-failed e =
           record { running = try-failed _ _ _ s m told (same-test ∙ e) (going .running); firsts = x .firsts ∙ going .firsts; kept = kept-twice }
 
--- ---- the fit of a count that was found
-module _ (j : Job) (points : List Float) (m : ℕ) (w w′ : List Float) (index index′ : List ℕ) (has : HasSpread j points m w) (r : Attempt)
-    (x : AttemptsSpread j points m w w′ index index′ r) where
-  pub never-unfitted : r ≡ Unfitted → ⊥
-  unfolding attempted
-  never-unfitted e = has .fits (x .answer ∙ ap (λ (a : Attempt). attempted a (candidateIn j points (m + j .table .degree + 1) w′)) e)
-
-  pub found-again : (y : Measured) → r ≡ Fitting y → FoundAgain j points m w w′ index index′ y
-  unfolding attempted
-  found-again y e =
-      record {
-        fit = x .answer ∙ ap (λ (a : Attempt). attempted a (candidateIn j points (m + j .table .degree + 1) w′)) e;
-        measures = x .measures y e;
-        firsts = x .firsts;
-        kept = x .kept;
-      }
-
--- a count that passes has a fit
-pub passed-fits : (d : Direction) (tolerance : Float) (m : ℕ) → passesOnSpread d tolerance m ≡ true → fitOnSpread d m ≡ none → ⊥
-unfolding passesOnSpread candidatePasses
-passed-fits d tolerance m p e = true≢false (sym p ∙ ap (candidatePasses d tolerance) e)
-
--- what a caller has after the search, and after the fit that follows it
+-- ---- the search, and then the fit of the count that it found
 module _ (j : Job) (points : List Float) (tolerance : Float) (last : ℕ) (w w′ : List Float) (index index′ : List ℕ) (has : HasJob j points w index)
     (r : Found) (x : FewestFound j points tolerance last w w′ index index′ r) where
   pub has-found : HasJob j points w′ index′
-  has-found = has-job-again j points w w′ index index′ has (x .kept .long) (x .firsts)
+  has-found = has-job-kept j points w w′ index index′ has (x .kept .long) (x .firsts)
 
-  same-direction : directionOf j points w′ ≡ directionOf j points w
-  same-direction = direction-kept j points w w′ (j .deviations + j .table .count) (has .params-in) (x .kept)
+  pub found-between : (m : ℕ) → r ≡ At m → last ≤ j .table .count → (j .table .degree < m) × (m ≤ j .table .count)
+  found-between m e h = let f = found _ _ _ m (sym (x .answer) ∙ e) in (f .above, omega (arith, f .below))
 
-  pub spread-found : (m : ℕ) → r ≡ At m → last ≤ j .table .count → HasSpread j points m w′
-  spread-found m e h =
-      let f = found _ _ _ m (sym (x .answer) ∙ e) in
-      record {
-        least = f .above;
-        most = omega (arith, f .below);
-        fits = λ n. passed-fits (directionOf j points w) tolerance m (f .passed) (ap (λ (d : Direction). fitOnSpread d m) (sym same-direction) ∙ n);
-      }
+  wider : (w₁ w₂ : List Float) → Kept (j .flat) (j .deviations + j .table .count) w₁ w₂ → Kept (j .flat) (j .fresh + j .table .count) w₁ w₂
+  wider w₁ w₂ k = kept-wider (j .flat) (j .deviations + j .table .count) (j .flat) (j .fresh + j .table .count) w₁ w₂ (omega arith) (omega (arith, has .deviations-in)) k
 
-  -- the spread search's answer: the fit that stands there, or the other
-  pub marked-spread : (m : ℕ) → r ≡ At m → (other : Marked) (w″ : List Float) (index″ : List ℕ) (y : Measured) → FoundAgain j points m w′ w″ index′ index″ y
-      → fitOnSpreadKnots (directionOf j points w) tolerance last other ≡ spread m (candidateIn j points (m + j .table .degree + 1) w″)
-  unfolding fitOnSpreadKnots foundOr spreadOr directionOf ladder
-  marked-spread m e other w″ index″ y z =
-      ap (foundOr (directionOf j points w) other) (sym (x .answer) ∙ e)
-      ∙ ap (spreadOr other m) (ap (λ (d : Direction). fitOnSpread d m) (sym same-direction) ∙ z .fit)
+  pub spread-nothing : r ≡ Nothing → SpreadsBelow j points tolerance last w w′ index index′ Missed
+  unfolding fitOnSpreadKnots foundOr spreadIn directionOf ladder
+  spread-nothing e = record {
+    answer = λ other. ap (foundOr (directionOf j points w) other) (sym (x .answer) ∙ e);
+    reaches = missed (x .firsts) (wider w w′ (x .kept));
+  }
 
-  pub marked-other : r ≡ Nothing → (other : Marked) → fitOnSpreadKnots (directionOf j points w) tolerance last other ≡ other
-  unfolding fitOnSpreadKnots foundOr directionOf ladder
-  marked-other e other = ap (foundOr (directionOf j points w) other) (sym (x .answer) ∙ e)
+  module _ (m : ℕ) (e : r ≡ At m) (most : last ≤ j .table .count) (w″ : List Float) (index″ : List ℕ) (a : Attempt) (y : AttemptsSpread j points m w′ w″ index′ index″ a) where
+    -- the fit that the definition takes is the one that was tried
+    spread-is : (other : Marked) → fitOnSpreadKnots (directionOf j points w) tolerance last other ≡ spreadOr other m (attempted a (candidateIn j points (m + j .table .degree + 1) w″))
+    unfolding fitOnSpreadKnots foundOr directionOf ladder
+    spread-is other =
+        ap (foundOr (directionOf j points w) other) (sym (x .answer) ∙ e)
+        ∙ ap (λ (d : Direction). spreadOr other m (fitOnSpread d m)) (sym (direction-kept j points w w′ (j .deviations + j .table .count) (has .params-in) (x .kept)))
+        ∙ ap (spreadOr other m) (y .answer)
+
+    kept-found : Kept (j .flat) (j .fresh + j .table .count) w w″
+    kept-found = wider w w″ (kept-then _ _ w w′ w″ (x .kept) (y .kept))
+
+    pub spread-unfitted : a ≡ Unfitted → SpreadsBelow j points tolerance last w w″ index index″ Missed
+    unfolding attempted spreadOr spreadIn
+    spread-unfitted u = record {
+      answer = λ other. spread-is other ∙ ap (λ (b : Attempt). spreadOr other m (attempted b (candidateIn j points (m + j .table .degree + 1) w″))) u;
+      reaches = missed (y .firsts ∙ x .firsts) kept-found;
+    }
+
+    pub spread-fitting : (z : Measured) → a ≡ Fitting z → SpreadsBelow j points tolerance last w w″ index index″ (Met (m + j .table .degree + 1) z)
+    unfolding attempted spreadOr spreadIn
+    spread-fitting z u = record {
+      answer = λ other.
+          let n : m ≡ m + j .table .degree + 1 - j .table .degree - 1 = omega arith in
+          spread-is other
+          ∙ ap (λ (b : Attempt). spreadOr other m (attempted b (candidateIn j points (m + j .table .degree + 1) w″))) u
+          ∙ ap (λ (k : ℕ). spread k (candidateIn j points (m + j .table .degree + 1) w″)) n;
+      reaches = met (spread-knots j m (found-between m e most .0) (found-between m e most .1)) (y .measures z u) (y .firsts ∙ x .firsts) kept-found;
+    }

@@ -14,7 +14,7 @@ use Rattle.geometry.specs.Doubles.{nought, largest}
 use Rattle.geometry.proofs.FloatOrder.{holds, test, le-transitive, not-above}
 use Rattle.geometry.proofs.Folds.{Each, largestFrom-le, le-largestFrom}
 use Rattle.tables.specs.Deviations.{allWithin, largestWithin}
-use Rattle.fitting.specs.Kept.{NoneAbove}
+use Rattle.fitting.specs.Tolerance.{NoneAbove}
 
 -- each deviation not above, by recursion and by index
 each→none : (t : Float) (ds : List Float) → Each t ds → NoneAbove t ds

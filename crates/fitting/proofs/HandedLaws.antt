@@ -28,7 +28,7 @@ use Rattle.tables.specs.Directions.{Direction}
 use Rattle.tables.proofs.SquareLaws.{length-right, length-substituted}
 use Rattle.refinement.specs.Refinement.{withKnots, refinedKnots}
 use Rattle.fitting.specs.Within.{Candidate, poleCount, tableOn, candidate, candidateOf, fitOn, fitOnSpread, Refining, going, fitted, stuck, goingOn, judged, refinementRound, refinementRounds, fitIn, fitWithRefinedKnots}
-use Rattle.fitting.proofs.KeptLaws.{length-clamped}
+use Rattle.fitting.proofs.ToleranceLaws.{length-clamped}
 
 -- ---- lengths of poles
 

@@ -8,7 +8,6 @@ use native.Mathlib.Omega.{arith}
 use lib.Dec.{ltb, leb, eqb}
 use lib.ListN.{length, take}
 use lib.Ieee.{Float, le}
-use borrow.Author.Tests.{ltb-false}
 use Rattle.places.specs.Places.{laid, someBelow}
 use Rattle.places.proofs.PlaceLaws.{length-listOf}
 use Rattle.geometry.specs.declared.Point.{Point}
@@ -18,7 +17,6 @@ use Rattle.bspline.specs.declared.Refusal.{Refusal}
 use Rattle.bspline.specs.declared.Refusal.the-variants.{ConfusedPoints}
 use Rattle.bspline.specs.declared.Verdict.{Verdict}
 use Rattle.bspline.specs.declared.Verdict.the-variants.{Pass, Stop}
-use Rattle.bspline.specs.Refusals.{stop-if, _next_}
 use Rattle.knots.specs.declared.Spacing.{Spacing}
 use Rattle.knots.specs.Parameters.{confusion, chords, stepSums, fromZeroToOne, pointParameters}
 use Rattle.tables.specs.BasisTable.{basisTable}
@@ -31,26 +29,13 @@ use Rattle.fitting.specs.declared.Answer.{Answer}
 use Rattle.fitting.specs.declared.Answer.the-variants.{Fitted, Refused}
 use Rattle.fitting.specs.Within.{Candidate, Marked, refined, spread, interpolated, chosen, poleCount, interpolate, fitWithRefinedKnots, refinedOr, fitWithin, spreadAlone, passesOnSpread}
 use Rattle.fitting.specs.Marks.{unmarked, markOf, fitOf}
-use Rattle.fitting.specs.Kept.{NoneAbove, Fails, Kept}
-use Rattle.bspline.proofs.CheckLaws.{both-pass}
-use Rattle.fitting.proofs.CheckLaws.{shape-pass, unchosen-pass, room-pass}
-use Rattle.fitting.specs.Ladders.{Lent, Result, refused, accepted, pointCount, shapeVerdict, unchosenVerdict, roomVerdict, coordinatesVerdict, ladderChecks, unchosenChecks, roomOf, Shaped, Roomy, ladderFit, fitWith, checked, answerOf, handed, handedFlat, handedPoles, ladderOf, paramsOr, handedDistances, LadderCall, LadderKept, withinFit, spreadFit, ApproximatesWithin, SearchesSpread, SpreadNeverMorePoles}
-use Rattle.fitting.proofs.KeptLaws.{Lawful, ladder-lawful, search-cases, IsSpread, spread-flat, poles-spread, alone-kept, within-kept, polesOf, no-more, spread-again}
+use Rattle.fitting.specs.Tolerance.{NoneAbove, Fails, KeepsTolerance}
+use Rattle.fitting.proofs.CheckLaws.{checks-give, count-under}
+use Rattle.fitting.specs.declared.Call.{Call}
+use Rattle.fitting.specs.declared.Call.the-variants.{ApproximateWithin, SearchSpread}
+use Rattle.fitting.specs.Ladders.{Lent, Result, refused, accepted, pointCount, countVerdict, ladderChecks, roomOf, Roomy, fitBy, ladderFit, fitWith, checked, resultOf, answerOf, handed, handedFlat, handedPoles, ladderOf, paramsOr, handedDistances, LadderCall, LadderKept, ApproximatesWithin, SearchesSpread, SpreadNeverMorePoles}
+use Rattle.fitting.proofs.ToleranceLaws.{Lawful, ladder-lawful, search-cases, IsSpread, spread-flat, poles-spread, alone-kept, within-kept, polesOf, no-more, spread-again}
 use Rattle.fitting.proofs.HandedLaws.{IsFit, Sized, From, taken, spread-from, refined-from}
-
--- ---- the checks that passed
--- what the checks give a ladder call that is not told a pole count
-pub roomy : (s : List Float) (degree : ℕ) (l : Lent) → unchosenChecks s degree l ≡ Pass
-    → (Shaped (length s) degree) × (degree + 1 ≤ pointCount s) × (Roomy (pointCount s) degree (roomOf l))
-unfolding ladderChecks
-roomy s degree l e =
-    let n = pointCount s in
-    let a = both-pass (shapeVerdict (length s) degree) _ e in
-    let b = both-pass (unchosenVerdict n degree) _ (a .1) in
-    let c = both-pass (roomVerdict n degree (roomOf l)) _ (b .1) in
-    let shaped = shape-pass (length s) degree (a .0) in
-    let under = unchosen-pass n degree (b .0) in
-    (shaped, omega (arith, shaped .least, under), room-pass n degree (roomOf l) (c .0))
 
 -- as many parameters as points
 pub params-long : (v : Spacing) (n : ℕ) (point : ℕ → Point) (params : List Float) → pointParameters v n point ≡ some params → length params ≡ n
@@ -98,7 +83,7 @@ record LadderKeptBy (d : Direction) (distances : Fit → List Float) (refinement
 
 -- what a way to fit a ladder within a tolerance keeps
 pub record Keeps (t : Float) (refinement : Direction → Option Candidate) (fit : Direction → Marked) : Type 0 where
-  pub kept : (d : Direction) → Lawful d → Kept d t (refinement d) (fit d)
+  pub kept : (d : Direction) → Lawful d → KeepsTolerance d t (refinement d) (fit d)
   pub from-refined : (d : Direction) → Lawful d → d .degree + 1 ≤ length (d .params) → (f : Candidate) → fit d ≡ refined f → From d f
   pub from-spread : (d : Direction) → Lawful d → (c : ℕ) (f : Candidate) → fit d ≡ spread c f → From d f × (poleCount (d .degree) (f .flat) ≡ c)
 
@@ -111,20 +96,24 @@ confused : (s : List Float) (degree : ℕ) (fit : Direction → Result) (r : Ans
 unfolding checked answerOf fitWith
 confused s degree fit r e = e
 
-module _ (s : List Float) (degree : ℕ) (fit : Direction → Marked) (params : List Float) where
-  accepted-answer : (r : Answer) → r ≡ answerOf degree (checked Pass (fitWith s degree (λ d. accepted (fit d)) (some params))) → r ≡ Fitted (fitOf degree (fit (ladder s degree params)))
-  unfolding checked answerOf fitWith
-  accepted-answer r e = e
+module _ (call : Call) (fit : Direction → Marked) (by : (d : Direction) → fitBy call d ≡ accepted (fit d)) (s : List Float) (degree : ℕ) (params : List Float) where
+  result-is : checked Pass (fitWith s degree (fitBy call) (some params)) ≡ accepted (fit (ladder s degree params))
+  unfolding checked fitWith
+  result-is = by (ladder s degree params)
 
-  accepted-flat : (xs ys : List Float) → xs ≡ handedFlat (checked Pass (fitWith s degree (λ d. accepted (fit d)) (some params))) ys
+  accepted-answer : (r : Answer) → r ≡ answerOf degree (checked Pass (fitWith s degree (fitBy call) (some params))) → r ≡ Fitted (fitOf degree (fit (ladder s degree params)))
+  unfolding answerOf
+  accepted-answer r e = e ∙ ap (answerOf degree) result-is
+
+  accepted-flat : (xs ys : List Float) → xs ≡ handedFlat (checked Pass (fitWith s degree (fitBy call) (some params))) ys
       → xs ≡ laid 0 (length (unmarked (fit (ladder s degree params)) .flat)) (at (unmarked (fit (ladder s degree params)) .flat)) ys
-  unfolding checked fitWith handed
-  accepted-flat xs ys e = e
+  unfolding handed
+  accepted-flat xs ys e = e ∙ ap (λ (x : Result). handedFlat x ys) result-is
 
-  accepted-poles : (xs ys : List Float) → xs ≡ handedPoles (checked Pass (fitWith s degree (λ d. accepted (fit d)) (some params))) ys
+  accepted-poles : (xs ys : List Float) → xs ≡ handedPoles (checked Pass (fitWith s degree (fitBy call) (some params))) ys
       → xs ≡ laid 0 (length (unmarked (fit (ladder s degree params)) .poles)) (at (unmarked (fit (ladder s degree params)) .poles)) ys
-  unfolding checked fitWith handed
-  accepted-poles xs ys e = e
+  unfolding handed
+  accepted-poles xs ys e = e ∙ ap (λ (x : Result). handedPoles x ys) result-is
 
 module _ (v : Spacing) (s : List Float) (degree : ℕ) (l l′ : Lent) (r : Answer) (t : Float)
     (refinement : Direction → Option Candidate) (fit : Direction → Marked) (keeps : Keeps t refinement fit) where
@@ -216,19 +205,21 @@ module _ (v : Spacing) (s : List Float) (degree : ℕ) (l l′ : Lent) (r : Answ
       }
 
   -- a call that keeps the rest of its contract keeps demand 3
-  pub kept-by-call : LadderCall degree (unchosenChecks s degree l) (ladderFit v s degree (λ d. accepted (fit d))) l l′ r → LadderKept v s degree t (refinement (ladderOf v s degree)) l′ r
-  unfolding ladderFit
-  kept-by-call call = go (unchosenChecks s degree l) refl (pointParameters v (pointCount s) (pointAt s)) refl (call .answer) (call .flat) (call .poles)
+  pub kept-by-call : (call : Call) → ((d : Direction) → fitBy call d ≡ accepted (fit d)) → LadderCall call s degree v l l′ r → LadderKept v s degree t (refinement (ladderOf v s degree)) l′ r
+  unfolding ladderFit resultOf
+  kept-by-call call by c = go (ladderChecks call s degree l) refl (pointParameters v (pointCount s) (pointAt s)) refl (c .hands .answer) (c .hands .flat) (c .hands .poles)
     where
-      go : (w : Verdict) → unchosenChecks s degree l ≡ w → (o : Option (List Float)) → pointParameters v (pointCount s) (pointAt s) ≡ o
-          → r ≡ answerOf degree (checked w (fitWith s degree (λ d. accepted (fit d)) o))
-          → l′ .flat ≡ handedFlat (checked w (fitWith s degree (λ d. accepted (fit d)) o)) (l .flat)
-          → l′ .poles ≡ handedPoles (checked w (fitWith s degree (λ d. accepted (fit d)) o)) (l .poles)
+      go : (w : Verdict) → ladderChecks call s degree l ≡ w → (o : Option (List Float)) → pointParameters v (pointCount s) (pointAt s) ≡ o
+          → r ≡ answerOf degree (checked w (fitWith s degree (fitBy call) o))
+          → l′ .flat ≡ handedFlat (checked w (fitWith s degree (fitBy call) o)) (l .flat)
+          → l′ .poles ≡ handedPoles (checked w (fitWith s degree (fitBy call) o)) (l .poles)
           → LadderKept v s degree t (refinement (ladderOf v s degree)) l′ r
-      go (Stop c) e o p a f q = refused-kept c (stopped c (fitWith s degree (λ d. accepted (fit d)) o) r degree a)
-      go Pass e none p a f q = refused-kept _ (confused s degree (λ d. accepted (fit d)) r a)
+      go (Stop c) e o p a f q = refused-kept c (stopped c (fitWith s degree (fitBy call) o) r degree a)
+      go Pass e none p a f q = refused-kept _ (confused s degree (fitBy call) r a)
       go Pass e (some params) p a f q =
-          accepted-kept params p (roomy s degree l e .1) (roomy s degree l e .2) (accepted-answer s degree fit params r a) (accepted-flat s degree fit params (l′ .flat) (l .flat) f) (accepted-poles s degree fit params (l′ .poles) (l .poles) q)
+          let g = checks-give call s degree l e in
+          accepted-kept params p (omega (arith, count-under call (pointCount s) degree (g .1) (g .0 .low))) (g .2) (accepted-answer call fit by s degree params r a) (accepted-flat call fit by s degree params (l′ .flat) (l .flat) f)
+          (accepted-poles call fit by s degree params (l′ .poles) (l .poles) q)
 
 -- ---- the two calls
 pub alone-cases : (d : Direction) → Lawful d → (t : Float) (Q : Marked → Type 0) → ((c : ℕ) (f : Candidate) → From d f → poleCount (d .degree) (f .flat) ≡ c → Q (spread c f)) → Q (interpolated (interpolate d)) → Q (spreadAlone d t)
@@ -284,22 +275,20 @@ keeps-within t =
     }
 
 -- Demand 3 needs no proof of the program: it follows from the call's equations.
-pub approximates-within : (s : List Float) (degree : ℕ) (t : Float) (v : Spacing) (l l′ : Lent) (r : Answer)
-    → LadderCall degree (unchosenChecks s degree l) (ladderFit v s degree (withinFit t)) l l′ r → ApproximatesWithin s degree t v l l′ r
-unfolding withinFit
-approximates-within s degree t v l l′ r call =
-    record { call = call; kept = kept-by-call v s degree l l′ r t (λ d. fitWithRefinedKnots d t) (λ d. fitWithin d t) (keeps-within t) call }
+pub approximates-within : (s : List Float) (degree : ℕ) (t : Float) (v : Spacing) (l l′ : Lent) (r : Answer) → LadderCall (ApproximateWithin t) s degree v l l′ r → ApproximatesWithin s degree t v l l′ r
+unfolding fitBy
+approximates-within s degree t v l l′ r c =
+    record { call = c; kept = kept-by-call v s degree l l′ r t (λ d. fitWithRefinedKnots d t) (λ d. fitWithin d t) (keeps-within t) (ApproximateWithin t) (λ d. refl) c }
 
-pub searches-spread : (s : List Float) (degree : ℕ) (t : Float) (v : Spacing) (l l′ : Lent) (r : Answer)
-    → LadderCall degree (unchosenChecks s degree l) (ladderFit v s degree (spreadFit t)) l l′ r → SearchesSpread s degree t v l l′ r
-unfolding spreadFit
-searches-spread s degree t v l l′ r call =
-    record { call = call; kept = kept-by-call v s degree l l′ r t (λ d. none) (λ d. spreadAlone d t) (keeps-alone t) call }
+pub searches-spread : (s : List Float) (degree : ℕ) (t : Float) (v : Spacing) (l l′ : Lent) (r : Answer) → LadderCall (SearchSpread t) s degree v l l′ r → SearchesSpread s degree t v l l′ r
+unfolding fitBy
+searches-spread s degree t v l l′ r c =
+    record { call = c; kept = kept-by-call v s degree l l′ r t (λ d. none) (λ d. spreadAlone d t) (keeps-alone t) (SearchSpread t) (λ d. refl) c }
 
 -- ---- two calls of the spread search alone
-spread-answer : (s : List Float) (degree : ℕ) (params : List Float) (t : Float) (r : Answer) → r ≡ answerOf degree (checked Pass (fitWith s degree (spreadFit t) (some params))) → r ≡ Fitted (fitOf degree (spreadAlone (ladder s degree params) t))
-unfolding checked answerOf fitWith spreadFit
-spread-answer s degree params t r e = e
+spread-answer : (s : List Float) (degree : ℕ) (params : List Float) (t : Float) (r : Answer) → r ≡ answerOf degree (checked Pass (fitWith s degree (fitBy (SearchSpread t)) (some params))) → r ≡ Fitted (fitOf degree (spreadAlone (ladder s degree params) t))
+unfolding fitBy
+spread-answer s degree params t r e = accepted-answer (SearchSpread t) (λ d. spreadAlone d t) (λ d. refl) s degree params r e
 
 fits-again : (s : List Float) (degree : ℕ) (params : List Float) (t t′ : Float) (r₁ r₂ : Answer) (f₁ : Fit) → le t t′ ≡ true → r₁ ≡ Fitted f₁
     → r₁ ≡ Fitted (fitOf degree (spreadAlone (ladder s degree params) t)) → r₂ ≡ Fitted (fitOf degree (spreadAlone (ladder s degree params) t′))
@@ -323,15 +312,15 @@ fits-again s degree params t t′ r₁ r₂ f₁ h e a b =
 
 -- the second half of demand 3, of two calls
 pub spread-never-more : SpreadNeverMorePoles
-unfolding ladderFit
+unfolding ladderFit resultOf ladderChecks countVerdict
 spread-never-more s degree v t t′ l l₁ l₂ r₁ r₂ f₁ c₁ c₂ h e =
-    go (unchosenChecks s degree l) (pointParameters v (pointCount s) (pointAt s)) (c₁ .call .answer) (c₂ .call .answer)
+    go (ladderChecks (SearchSpread t) s degree l) (pointParameters v (pointCount s) (pointAt s)) (c₁ .call .hands .answer) (c₂ .call .hands .answer)
   where
     refusal : (c : Refusal) → r₁ ≡ Refused c → ⊥
     refusal c q = let z : _≡_ {A = ℕ} 0 1 = cc in omega arith
 
-    go : (w : Verdict) (o : Option (List Float)) → r₁ ≡ answerOf degree (checked w (fitWith s degree (spreadFit t) o)) → r₂ ≡ answerOf degree (checked w (fitWith s degree (spreadFit t′) o))
+    go : (w : Verdict) (o : Option (List Float)) → r₁ ≡ answerOf degree (checked w (fitWith s degree (fitBy (SearchSpread t)) o)) → r₂ ≡ answerOf degree (checked w (fitWith s degree (fitBy (SearchSpread t′)) o))
         → (f₂ : Fit) × ((r₂ ≡ Fitted f₂) × ((f₂ .poles ≤ f₁ .poles) × ((x : Float) → f₁ .mark ≡ Spread x → (y : Float) × (f₂ .mark ≡ Spread y))))
-    go (Stop c) o a b = absurd (refusal c (stopped c (fitWith s degree (spreadFit t) o) r₁ degree a))
-    go Pass none a b = absurd (refusal _ (confused s degree (spreadFit t) r₁ a))
+    go (Stop c) o a b = absurd (refusal c (stopped c (fitWith s degree (fitBy (SearchSpread t)) o) r₁ degree a))
+    go Pass none a b = absurd (refusal _ (confused s degree (fitBy (SearchSpread t)) r₁ a))
     go Pass (some params) a b = fits-again s degree params t t′ r₁ r₂ f₁ h e (spread-answer s degree params t r₁ a) (spread-answer s degree params t′ r₂ b)

@@ -1,10 +1,11 @@
 -- The laws of fits, and demand 3. Other crates' proofs cite them as Rattle.fitting.proofs.NAME.
 pub mod CheckLaws
 pub mod DeviationLaws
-pub mod KeptLaws
+pub mod ToleranceLaws
 pub mod HandedLaws
 pub mod LadderLaws
 pub mod AttemptLaws
 pub mod RoundsLaws
 pub mod CountLaws
+pub mod MakeLaws
 pub mod RunLaws

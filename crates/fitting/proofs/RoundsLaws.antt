@@ -33,11 +33,11 @@ use Rattle.fitting.specs.declared.Attempt.{Attempt}
 use Rattle.fitting.specs.declared.Attempt.the-variants.{Unfitted, Fitting}
 use Rattle.fitting.specs.declared.Turn.{Turn}
 use Rattle.fitting.specs.declared.Turn.the-variants.{Ended, Fits, Next}
-use Rattle.fitting.specs.declared.Rounds.{Rounds}
-use Rattle.fitting.specs.declared.Rounds.the-variants.{Stuck, Fitted}
+use Rattle.fitting.specs.declared.Reached.{Reached}
+use Rattle.fitting.specs.declared.Reached.the-variants.{Missed, Met}
 use Rattle.fitting.specs.Within.{Candidate, tableOn, fitOn, Refining, going, fitted, stuck, goingOn, judged, refinementRound, refinementRounds, fitIn, fitWithRefinedKnots}
 use Rattle.fitting.specs.Jobs.{directionOf, flatIn, candidateIn, attempted, turned, refinedIn, HasJob, HasKnots, Attempts, Turns, RefinesWithin}
-use Rattle.fitting.proofs.AttemptLaws.{fills, has-job-kept, kept-knots, direction-put, flat-put}
+use Rattle.fitting.proofs.AttemptLaws.{fills, params-long, has-job-kept, direction-kept, kept-knots, direction-put, flat-put, missed, met, reaches-later}
 
 -- ---- the rounds of a direction
 
@@ -284,27 +284,6 @@ module _ (j : Job) (points w : List Float) (index : List ℕ) (has : HasJob j po
 
 -- ---- the loop
 
--- the regions lie as well in other slices that are as long
-has-job-both : (j : Job) (points w w′ : List Float) (index index′ : List ℕ) → HasJob j points w index → length w′ ≡ length w → length index′ ≡ length index → HasJob j points w′ index′
-has-job-both j points w w′ index index′ has e g =
-    let h = has-job-kept j points w w′ index has e in record {
-      low = h .low;
-      high = h .high;
-      under = h .under;
-      few = h .few;
-      kind = h .kind;
-      lines = h .lines;
-      points-in = h .points-in;
-      params-in = h .params-in;
-      flat-in = h .flat-in;
-      values-in = h .values-in;
-      band-in = h .band-in;
-      poles-in = h .poles-in;
-      deviations-in = h .deviations-in;
-      fresh-in = h .fresh-in;
-      firsts-in = omega (arith, h .firsts-in);
-    }
-
 first-knots : (j : Job) → j .table .degree < j .table .count → HasKnots j (2 * j .table .degree + 2)
 first-knots j h = record { least = omega arith; most = omega arith }
 
@@ -332,24 +311,20 @@ module _ (j : Job) (points : List Float) (t : Float) (w₀ : List Float) (index�
     unfolding directionOf ladder
     degree-is = refl
 
-    params-long : length (d₀ .params) ≡ j .table .count
-    unfolding directionOf ladder
-    params-long =
-        length-part (j .params) (j .params + j .table .count) w₀
-        (omega (arith, has₀ .params-in, has₀ .flat-in, has₀ .values-in, has₀ .band-in, has₀ .poles-in, has₀ .deviations-in, has₀ .fresh-in))
-        ∙ omega arith
+    params-are : length (d₀ .params) ≡ j .table .count
+    params-are = params-long j points w₀ index₀ has₀
 
     -- enough rounds, by the job's own numbers
     enough-here : (a b : ℕ) (flat : List Float) → j .table .degree + 1 ≤ length flat → length flat ≤ j .table .count + j .table .degree + 1
         → j .table .count + j .table .degree + 1 < a + length flat → j .table .count + j .table .degree + 1 < b + length flat
         → refinementRounds d₀ t a (going flat) ≡ refinementRounds d₀ t b (going flat)
     enough-here a b flat g h p q =
-        enough d₀ t a b flat (omega (arith, degree-is)) (omega (arith, degree-is, params-long)) (omega (arith, degree-is, params-long)) (omega (arith, degree-is, params-long))
+        enough d₀ t a b flat (omega (arith, degree-is)) (omega (arith, degree-is, params-are)) (omega (arith, degree-is, params-are)) (omega (arith, degree-is, params-are))
 
     goal-is : fitWithRefinedKnots d₀ t ≡ fitIn goal
     unfolding fitWithRefinedKnots
     goal-is =
-        ap (λ (n : ℕ). fitIn (refinementRounds d₀ t n (going (bezierKnots (d₀ .degree))))) params-long
+        ap (λ (n : ℕ). fitIn (refinementRounds d₀ t n (going (bezierKnots (d₀ .degree))))) params-are
         ∙ ap (λ (n : ℕ). fitIn (refinementRounds d₀ t (j .table .count) (going (bezierKnots n)))) degree-is
 
     -- from the knots of a single piece
@@ -370,9 +345,7 @@ module _ (j : Job) (points : List Float) (t : Float) (w₀ : List Float) (index�
 
   module _ (w : List Float) (index : List ℕ) (l : ℕ) (v : Rounding w index l) (w′ : List Float) (index′ : List ℕ) (r : Turn) (x : Turns j points l t w w′ index index′ r) where
     direction-same : directionOf j points w ≡ d₀
-    unfolding directionOf
-    direction-same =
-        ap (ladder points (j .table .degree)) (kept-part (j .flat) (j .fresh + j .table .count) w₀ w (v .kept) (j .params) (j .params + j .table .count) (omega arith) (v .first .params-in))
+    direction-same = direction-kept j points w₀ w (j .fresh + j .table .count) (v .first .params-in) (v .kept)
 
     abbrev more : ℕ
     more = j .table .count + j .table .degree + 1 - l
@@ -390,19 +363,16 @@ module _ (j : Job) (points : List Float) (t : Float) (w₀ : List Float) (index�
     kept-all : Kept (j .flat) (j .fresh + j .table .count) w₀ w′
     kept-all = kept-then (j .flat) (j .fresh + j .table .count) w₀ w w′ (v .kept) (x .kept)
 
-    pub rounding-ended : r ≡ Ended → RefinesWithin j points t w₀ w′ index₀ index′ Stuck
+    pub rounding-ended : r ≡ Ended → RefinesWithin j points t w₀ w′ index₀ index′ Missed
     unfolding turned refinedIn fitIn
     rounding-ended e = record {
       answer =
           goal-is (v .first)
           ∙ ap fitIn (rest-is ∙ ap (λ (u : Turn). refinementRounds d₀ t more (turned u (candidateIn j points l w′) (λ (k : ℕ). flatIn j k w′))) e ∙ rounds-stuck d₀ t more);
-      measures = λ n m z. let u : _≡_ {A = ℕ} 0 1 = cc in absurd (omega arith);
-      few = λ n m z. let u : _≡_ {A = ℕ} 0 1 = cc in absurd (omega arith);
-      firsts = x .firsts ∙ v .firsts;
-      kept = kept-all;
+      reaches = missed (x .firsts ∙ v .firsts) kept-all;
     }
 
-    pub rounding-fits : (y : Measured) → r ≡ Fits y → RefinesWithin j points t w₀ w′ index₀ index′ (Fitted l y)
+    pub rounding-fits : (y : Measured) → r ≡ Fits y → RefinesWithin j points t w₀ w′ index₀ index′ (Met l y)
     unfolding turned refinedIn fitIn
     rounding-fits y e = record {
       answer =
@@ -411,10 +381,7 @@ module _ (j : Job) (points : List Float) (t : Float) (w₀ : List Float) (index�
           (rest-is
           ∙ ap (λ (u : Turn). refinementRounds d₀ t more (turned u (candidateIn j points l w′) (λ (k : ℕ). flatIn j k w′))) e
           ∙ rounds-fitted d₀ t more (candidateIn j points l w′));
-      measures = λ n m z. let a : l ≡ n = cc in let b : y ≡ m = cc in sym b ∙ x .measures y e ∙ ap (λ (k : ℕ). measured (candidateIn j points k w′ .distances)) a;
-      few = λ n m z. let a : l ≡ n = cc in subst (HasKnots j) a (v .knots);
-      firsts = x .firsts ∙ v .firsts;
-      kept = kept-all;
+      reaches = met (v .knots) (x .measures y e) (x .firsts ∙ v .firsts) kept-all;
     }
 
     pub rounding-next : (k : ℕ) → r ≡ Next k → (l < k) × Rounding w′ index′ k
@@ -428,7 +395,7 @@ module _ (j : Job) (points : List Float) (t : Float) (w₀ : List Float) (index�
           g .0,
           record {
             first = v .first;
-            has = has-job-both j points w w′ index index′ (v .has) (x .kept .long) (x .firsts);
+            has = has-job-kept j points w w′ index index′ (v .has) (x .kept .long) (x .firsts);
             knots = record { least = omega (arith, g .0, v .knots .least); most = omega (arith, g .1) };
             kept = kept-all;
             firsts = x .firsts ∙ v .firsts;
@@ -461,18 +428,14 @@ module _ (j : Job) (points w : List Float) (index : List ℕ) (has : HasJob j po
 
   pub loop-start : (t : Float) → Rounding j points t w₀ index w₀ index few
   loop-start t =
-      rounding-start j points t w₀ index (has-job-kept j points w w₀ index has (kept-piece .long))
+      rounding-start j points t w₀ index (has-job-kept j points w w₀ index index has (kept-piece .long) refl)
       (flat-put j points w index has few (first-knots j (has .under)) w₀ piece size put)
 
-  pub loop-end : (t : Float) (w′ : List Float) (index′ : List ℕ) (r : Rounds) → RefinesWithin j points t w₀ w′ index index′ r → RefinesWithin j points t w w′ index index′ r
+  pub loop-end : (t : Float) (w′ : List Float) (index′ : List ℕ) (r : Reached) → RefinesWithin j points t w₀ w′ index index′ r → RefinesWithin j points t w w′ index index′ r
   loop-end t w′ index′ r x = record {
     answer = ap (λ (d : Direction). fitWithRefinedKnots d t) (sym (direction-put j points w index has few (first-knots j (has .under)) w₀ piece size put)) ∙ x .answer;
-    measures = x .measures;
-    few = x .few;
-    firsts = x .firsts;
-    kept =
-        kept-then (j .flat) (j .fresh + j .table .count) w w₀ w′
+    reaches =
+        reaches-later (x .reaches) refl
         (kept-wider (j .flat) (j .flat + few) (j .flat) (j .fresh + j .table .count) w w₀ (omega arith)
-        (omega (arith, has .under, has .flat-in, has .values-in, has .band-in, has .poles-in, has .deviations-in)) kept-piece)
-        (x .kept);
+        (omega (arith, has .under, has .flat-in, has .values-in, has .band-in, has .poles-in, has .deviations-in)) kept-piece);
   }

@@ -1,22 +1,25 @@
 -- A fit that stands in the job's regions and is handed out is what the call's contract says; and the regions of a ladder that passed its checks. Assumes nothing.
 use mathlib.Core.Path.{_≡_, refl, sym, ap, _∙_, subst}
-use mathlib.Core.Bool.{Bool, true, false, cond, not, true≢false}
+use mathlib.Core.Bool.{Bool, true, false, cond, not}
 use mathlib.Core.Option.{Option, none, some}
 use mathlib.Core.List.{List}
 use Prim.Native.Nat.{ℕ, _+_, _-_, _*_, _/_, _≤_, _<_}
 use native.Mathlib.Omega.{arith}
 use lib.ListN.{length, take, replicate}
 use lib.Ieee.{Float}
+use borrow.Author.Tests.{not-true, not-false}
 use Rattle.places.specs.Places.{laid}
 use Rattle.places.specs.Regions.{part}
 use Rattle.places.proofs.RegionLaws.{length-part}
 use Rattle.geometry.specs.Doubles.{at, largest, nought}
 use Rattle.knots.specs.Knots.{distinctKnots, knotAt, multiplicityAt}
-use Rattle.tables.specs.declared.Measured.{Measured}
-use Rattle.tables.specs.Measures.{measured}
 use Rattle.tables.specs.Deviations.{unreadable}
 use Rattle.fitting.specs.declared.Job.{Job}
 use Rattle.fitting.specs.declared.Mark.{Mark}
+use Rattle.fitting.specs.declared.Mark.the-variants.{Refined, Spread, Interpolated, Chosen}
+use Rattle.fitting.specs.declared.Standing.{Standing}
+use Rattle.fitting.specs.declared.Made.{Made}
+use Rattle.fitting.specs.declared.Made.the-variants.{Fails, Stands}
 use Rattle.fitting.specs.declared.Fit.{Fit}
 use Rattle.bspline.specs.declared.Refusal.{Refusal}
 use Rattle.bspline.specs.declared.Refusal.the-variants.{ConfusedPoints}
@@ -29,16 +32,15 @@ use Rattle.knots.specs.Lines.{lineOf}
 use Rattle.knots.specs.Calls.{Found}
 use Rattle.knots.proofs.LineLaws.{ladder-same}
 use Rattle.tables.specs.Directions.{Direction, ladder}
-use Rattle.fitting.specs.declared.Room.{Room}
 use Rattle.fitting.specs.declared.Answer.{Answer}
 use Rattle.fitting.specs.declared.Answer.the-variants.{Fitted, Refused}
 use Rattle.fitting.specs.Within.{Candidate, Marked, candidate, poleCount}
-use Rattle.fitting.specs.Marks.{unmarked, markOf, fitOf}
-use Rattle.fitting.specs.Ladders.{Lent, Result, accepted, refused, answerOf, answerNumber, resultNumber, handed, cleared, checked, fitWith, ladderFit, LadderCall, Shaped, Roomy, shapeVerdict, roomVerdict, roomOf, coordinatesVerdict, ladderChecks}
+use Rattle.fitting.specs.Marks.{largestDeviation, unmarked, markOf, fitOf}
+use Rattle.fitting.specs.declared.Call.{Call}
+use Rattle.fitting.specs.Ladders.{Lent, lent, Result, accepted, refused, answerOf, answerNumber, resultNumber, handed, handedPoles, handedFlat, handedKnots, handedMults, cleared, checked, resultOf, fitBy, fitWith, ladderFit, HandsOut, LadderCall, shapeVerdict, countVerdict, roomVerdict, roomOf, coordinatesVerdict, ladderChecks}
 use Rattle.fitting.specs.Jobs.{HasJob, directionOf, flatIn, polesIn, candidateIn}
 use Rattle.fitting.specs.HandedOut.{HandedOut}
-use Rattle.fitting.specs.Runs.{lent, ladderJob, HandsOut}
-use Rattle.fitting.proofs.CheckLaws.{small, shape-pass, room-pass}
+use Rattle.fitting.specs.Runs.{ladderJob, markedAs, standingIn, madeIn, Makes}
 
 fit-same : (m m′ : Mark) (p p′ k k′ u u′ : ℕ) → m ≡ m′ → p ≡ p′ → k ≡ k′ → u ≡ u′
     → _≡_ {A = Fit} (record { mark = m; poles = p; knots = k; unreadable = u }) (record { mark = m′; poles = p′; knots = k′; unreadable = u′ })
@@ -58,20 +60,72 @@ module _ (j : Job) (points w : List Float) (m : ℕ) (a : Marked) (stands : cand
   count-is : m ≡ poleCount (j .table .degree) (unmarked a .flat)
   count-is = omega (arith, ap length (sym knots-are) ∙ length-part (j .flat) (j .flat + (m + j .table .degree + 1)) w inside)
 
-  pub hands-out : (mk : Mark) (x : Measured) → mk ≡ markOf a → x ≡ measured (unmarked a .distances)
+  pub hands-out : (mk : Mark) (u : ℕ) → mk ≡ markOf a → u ≡ unreadable (unmarked a .distances)
       → {poles poles′ flat flat′ knots knots′ : List Float} {mults mults′ : List ℕ} {count : ℕ}
       → HandedOut (part (j .poles) (j .poles + 3 * m) w) (part (j .flat) (j .flat + (m + j .table .degree + 1)) w) poles poles′ flat flat′ knots knots′ mults mults′ count
       → (work work′ : List Float) (index index′ : List ℕ)
       → HandsOut (j .table .degree) (accepted a) (lent poles flat knots mults work index) (lent poles′ flat′ knots′ mults′ work′ index′)
-      (Fitted (record { mark = mk; poles = m; knots = count; unreadable = x .unreadable }))
-  unfolding answerOf fitOf handed measured
-  hands-out mk x marked measures {poles} {poles′} {flat} {flat′} {knots} {knots′} {mults} {mults′} {count} out work work′ index index′ = record {
-    answer = ap Fitted (fit-same mk (markOf a) m (poleCount (j .table .degree) (unmarked a .flat)) count (distinctKnots (unmarked a .flat)) (x .unreadable) (unreadable (unmarked a .distances)) marked count-is (out .runs .count ∙ ap distinctKnots knots-are) (ap (λ (y : Measured). y .unreadable) measures));
+      (Fitted (record { mark = mk; poles = m; knots = count; unreadable = u }))
+  unfolding answerOf fitOf handed
+  hands-out mk u marked unread {poles} {poles′} {flat} {flat′} {knots} {knots′} {mults} {mults′} {count} out work work′ index index′ = record {
+    answer = ap Fitted (fit-same mk (markOf a) m (poleCount (j .table .degree) (unmarked a .flat)) count (distinctKnots (unmarked a .flat)) u (unreadable (unmarked a .distances)) marked count-is (out .runs .count ∙ ap distinctKnots knots-are) unread);
     poles = out .for-poles ∙ ap (λ (l : List Float). laid 0 (length l) (at l) poles) poles-are;
     flat = out .for-flat ∙ ap (λ (l : List Float). laid 0 (length l) (at l) flat) knots-are;
     knots = out .runs .values ∙ ap (λ (l : List Float). laid 0 (distinctKnots l) (knotAt l) knots) knots-are;
     mults = out .runs .multiplicities ∙ ap (λ (l : List Float). laid 0 (distinctKnots l) (multiplicityAt l) mults) knots-are;
   }
+
+module _ (degree : ℕ) {poles flat knots : List Float} {mults : List ℕ} where
+  pub run-refused : (fit : Result) (c : Refusal) → fit ≡ refused c → (work work′ : List Float) (index index′ : List ℕ)
+      → HandsOut degree fit (lent poles flat knots mults work index) (lent poles flat knots mults work′ index′) (Refused c)
+  unfolding answerOf handed
+  run-refused fit c e work work′ index index′ =
+      subst (λ (f : Result). HandsOut degree f (lent poles flat knots mults work index) (lent poles flat knots mults work′ index′) (Refused c)) (sym e)
+      (record { answer = refl; poles = refl; flat = refl; knots = refl; mults = refl })
+
+  pub run-same : {fit : Result} {work work₀ : List Float} {index index₀ : List ℕ} {l′ : Lent} {r : Answer} (fit₀ : Result) → fit₀ ≡ fit
+      → HandsOut degree fit (lent poles flat knots mults work index) l′ r → HandsOut degree fit₀ (lent poles flat knots mults work₀ index₀) l′ r
+  run-same {fit} {work} {work₀} {index} {index₀} {l′} {r} fit₀ e h =
+      subst (λ (f : Result). HandsOut degree f (lent poles flat knots mults work₀ index₀) l′ r) (sym e)
+      (record { answer = h .answer; poles = h .poles; flat = h .flat; knots = h .knots; mults = h .mults })
+
+-- a fit that stands there has its own mark
+unmarked-as : (mk : Mark) (m : ℕ) (f : Candidate) → unmarked (markedAs mk m f) ≡ f
+unfolding unmarked markedAs
+unmarked-as (Refined x) m f = refl
+unmarked-as (Spread x) m f = refl
+unmarked-as (Interpolated x) m f = refl
+unmarked-as (Chosen x) m f = refl
+
+mark-as : (mk : Mark) (m : ℕ) (f : Candidate) → largestDeviation mk ≡ largest (f .distances) → mk ≡ markOf (markedAs mk m f)
+unfolding markOf markedAs
+mark-as (Refined x) m f e = ap Refined e
+mark-as (Spread x) m f e = ap Spread e
+mark-as (Interpolated x) m f e = ap Interpolated e
+mark-as (Chosen x) m f e = ap Chosen e
+
+module _ {j : Job} {points w w′ : List Float} {index index′ : List ℕ} {fit : Result} {r : Made} (made : Makes j points fit w w′ index index′ r) where
+  pub hands-refused : (c : Refusal) → r ≡ Fails c → {poles flat knots : List Float} {mults : List ℕ}
+      → HandsOut (j .table .degree) fit (lent poles flat knots mults w index) (lent poles flat knots mults w′ index′) (Refused c)
+  unfolding madeIn
+  hands-refused c e = run-refused (j .table .degree) fit c (made .answer ∙ ap (λ (x : Made). madeIn x (standingIn j points w′)) e) _ _ _ _
+
+  pub hands-standing : (x : Standing) → r ≡ Stands x → HasJob j points w index
+      → {poles poles′ flat flat′ knots knots′ : List Float} {mults mults′ : List ℕ} {count : ℕ}
+      → HandedOut (part (j .poles) (j .poles + 3 * (x .flat - j .table .degree - 1)) w′) (part (j .flat) (j .flat + (x .flat - j .table .degree - 1 + j .table .degree + 1)) w′) poles poles′ flat flat′ knots knots′ mults mults′ count
+      → HandsOut (j .table .degree) fit (lent poles flat knots mults w index) (lent poles′ flat′ knots′ mults′ w′ index′)
+      (Fitted (record { mark = x .mark; poles = x .flat - j .table .degree - 1; knots = count; unreadable = x .unreadable }))
+  unfolding madeIn standingIn
+  hands-standing x e has out =
+      let k = made .few x e in
+      let f = candidateIn j points (x .flat) w′ in
+      let m = x .flat - j .table .degree - 1 in
+      let z : m + j .table .degree + 1 ≡ x .flat = omega (arith, k .least) in
+      run-same (j .table .degree) fit (made .answer ∙ ap (λ (y : Made). madeIn y (standingIn j points w′)) e)
+      (hands-out j points w′ m (markedAs (x .mark) m f) (ap (λ (i : ℕ). candidateIn j points i w′) z ∙ sym (unmarked-as (x .mark) m f))
+      (omega (arith, k .most, has .flat-in, has .values-in, has .band-in, has .poles-in, has .deviations-in, has .fresh-in, made .kept .long))
+      (x .mark) (x .unreadable) (mark-as (x .mark) m f (made .most x e)) (made .unread x e ∙ ap (λ (y : Candidate). unreadable (y .distances)) (sym (unmarked-as (x .mark) m f)))
+      out w w′ index index′)
 
 -- the regions of a ladder lie in the slices that document 01 asks for
 pub has-ladder-job : (n p : ℕ) (points work : List Float) (index : List ℕ) → 1 ≤ p → p ≤ 25 → p < n → n ≤ 1024 → 3 * n ≤ length points
@@ -100,14 +154,6 @@ direction-is n p s w = let z : 0 + n - 0 ≡ n = omega arith in ap (λ (k : ℕ)
 
 -- ---- with the parameters, or 5
 
-not-true : (b : Bool) → not b ≡ true → b ≡ false
-not-true false e = refl
-not-true true e = absurd (true≢false (sym e))
-
-not-false : (b : Bool) → not b ≡ false → b ≡ true
-not-false true e = refl
-not-false false e = absurd (true≢false e)
-
 module _ {o : Option (List Float)} {n m : ℕ} {out out′ : List Float} {r : Bool} (f : Found o n m out out′ r) where
   pub found-none : not r ≡ true → o ≡ none
   found-none e = f .answer ∙ ap (λ (b : Bool). cond b (some (take n out′)) none) (not-true r e)
@@ -124,45 +170,12 @@ module _ (v : Spacing) (s : List Float) (degree : ℕ) (fit : Direction → Resu
   unfolding ladderFit fitWith
   passed-some params e = ap (fitWith s degree fit) (sym (ladder-same v (length s / 3) s) ∙ e)
 
-module _ (degree : ℕ) {poles flat knots : List Float} {mults : List ℕ} where
-  pub run-refused : (fit : Result) (c : Refusal) → fit ≡ refused c → (work work′ : List Float) (index index′ : List ℕ)
-      → HandsOut degree fit (lent poles flat knots mults work index) (lent poles flat knots mults work′ index′) (Refused c)
-  unfolding answerOf handed
-  run-refused fit c e work work′ index index′ =
-      subst (λ (f : Result). HandsOut degree f (lent poles flat knots mults work index) (lent poles flat knots mults work′ index′) (Refused c)) (sym e)
-      (record { answer = refl; poles = refl; flat = refl; knots = refl; mults = refl })
-
-  pub run-same : {fit : Result} {work work₀ : List Float} {index index₀ : List ℕ} {l′ : Lent} {r : Answer} (fit₀ : Result) → fit₀ ≡ fit
-      → HandsOut degree fit (lent poles flat knots mults work index) l′ r → HandsOut degree fit₀ (lent poles flat knots mults work₀ index₀) l′ r
-  run-same {fit} {work} {work₀} {index} {index₀} {l′} {r} fit₀ e h =
-      subst (λ (f : Result). HandsOut degree f (lent poles flat knots mults work₀ index₀) l′ r) (sym e)
-      (record { answer = h .answer; poles = h .poles; flat = h .flat; knots = h .knots; mults = h .mults })
-
 -- ---- the checks
 
-pub next-passed : (v w : Verdict) → (v next w) ≡ Pass → (v ≡ Pass) × (w ≡ Pass)
-unfolding _next_
-next-passed Pass w e = (refl, e)
-next-passed (Stop c) w e = let z : _≡_ {A = ℕ} 0 1 = cc in absurd (omega arith)
-
-pub checks-passed : (s : List Float) (degree : ℕ) (counts coordinates : Verdict) (room : Room)
-    → (shapeVerdict (length s) degree next counts next roomVerdict (length s / 3) degree room next coordinates) ≡ Pass
-    → Shaped (length s) degree × (counts ≡ Pass) × Roomy (length s / 3) degree room
-checks-passed s degree counts coordinates room e =
-    let a = next-passed (shapeVerdict (length s) degree) (counts next roomVerdict (length s / 3) degree room next coordinates) e in
-    let b = next-passed counts (roomVerdict (length s / 3) degree room next coordinates) (a .1) in
-    let c = next-passed (roomVerdict (length s / 3) degree room) coordinates (b .1) in
-    (shape-pass (length s) degree (a .0), b .0, room-pass (length s / 3) degree room (c .0))
-
-pub checks-are : (s : List Float) (degree : ℕ) (l : Lent) (counts r verdict : Verdict)
-    → r ≡ (shapeVerdict (length s) degree next counts next roomVerdict (length s / 3) degree (roomOf l) next coordinatesVerdict s) → counts ≡ verdict → r ≡ ladderChecks s degree verdict l
+pub checks-are : (call : Call) (s : List Float) (degree : ℕ) (l : Lent) (counts r : Verdict)
+    → r ≡ (shapeVerdict (length s) degree next counts next roomVerdict (length s / 3) degree (roomOf l) next coordinatesVerdict s) → counts ≡ countVerdict call (length s / 3) degree → r ≡ ladderChecks call s degree l
 unfolding ladderChecks
-checks-are s degree l counts r verdict e f = e ∙ ap (λ (v : Verdict). shapeVerdict (length s) degree next v next roomVerdict (length s / 3) degree (roomOf l) next coordinatesVerdict s) f
-
-pub checks-give : (s : List Float) (degree : ℕ) (l : Lent) (verdict : Verdict) → Pass ≡ ladderChecks s degree verdict l
-    → Shaped (length s) degree × (verdict ≡ Pass) × Roomy (length s / 3) degree (roomOf l)
-unfolding ladderChecks
-checks-give s degree l verdict e = checks-passed s degree verdict (coordinatesVerdict s) (roomOf l) (sym e)
+checks-are call s degree l counts r e f = e ∙ ap (λ (v : Verdict). shapeVerdict (length s) degree next v next roomVerdict (length s / 3) degree (roomOf l) next coordinatesVerdict s) f
 
 -- ---- a whole call
 
@@ -171,17 +184,30 @@ unfolding answerNumber answerOf resultNumber
 number-of degree (refused c) = refl
 number-of degree (accepted a) = refl
 
-pub call-refused : (degree : ℕ) (checks : Verdict) (fit : Result) (c : Refusal) → Stop c ≡ checks → (l : Lent) → LadderCall degree checks fit l l (Refused c)
-unfolding checked answerOf answerNumber resultNumber handed cleared
-call-refused degree checks fit c e l =
-    subst (λ (v : Verdict). LadderCall degree v fit l l (Refused c)) e
-    (record { answer = refl; number = refl; poles = refl; flat = refl; knots = refl; mults = refl; work = refl; index = refl })
+module _ (call : Call) (s : List Float) (degree : ℕ) (v : Spacing) where
+  pub call-refused : (c : Refusal) (l : Lent) → Stop c ≡ ladderChecks call s degree l → LadderCall call s degree v l l (Refused c)
+  unfolding resultOf checked answerOf answerNumber resultNumber handed cleared
+  call-refused c l e =
+      let q : resultOf call s degree v l ≡ refused c = ap (λ (w : Verdict). checked w (ladderFit v s degree (fitBy call))) (sym e) in
+      record {
+        hands = run-refused degree (resultOf call s degree v l) c q _ _ _ _;
+        number = sym (ap resultNumber q);
+        work = ap (λ (w : Verdict). cleared nought w (l .work)) e;
+        index = ap (λ (w : Verdict). cleared 0 w (l .index)) e;
+      }
 
-pub call-passed : (degree : ℕ) (checks : Verdict) (fit : Result) → Pass ≡ checks → {poles poles′ flat flat′ knots knots′ work work₁ : List Float} {mults mults′ index index₁ : List ℕ} {r : Answer}
-    → HandsOut degree fit (lent poles flat knots mults work index) (lent poles′ flat′ knots′ mults′ work₁ index₁) r
-    → (work′ : List Float) (index′ : List ℕ) → work′ ≡ replicate (length work) nought → index′ ≡ replicate (length index) 0
-    → LadderCall degree checks fit (lent poles flat knots mults work index) (lent poles′ flat′ knots′ mults′ work′ index′) r
-unfolding checked cleared
-call-passed degree checks fit e {poles} {poles′} {flat} {flat′} {knots} {knots′} {work} {work₁} {mults} {mults′} {index} {index₁} {r} h work′ index′ w i =
-    subst (λ (v : Verdict). LadderCall degree v fit (lent poles flat knots mults work index) (lent poles′ flat′ knots′ mults′ work′ index′) r) e
-    (record { answer = h .answer; number = ap answerNumber (h .answer) ∙ number-of degree fit; poles = h .poles; flat = h .flat; knots = h .knots; mults = h .mults; work = w; index = i })
+  pub call-passed : {poles poles′ flat flat′ knots knots′ work work₁ : List Float} {mults mults′ index index₁ : List ℕ} {r : Answer}
+      → Pass ≡ ladderChecks call s degree (lent poles flat knots mults work index)
+      → HandsOut degree (ladderFit v s degree (fitBy call)) (lent poles flat knots mults work index) (lent poles′ flat′ knots′ mults′ work₁ index₁) r
+      → (work′ : List Float) (index′ : List ℕ) → work′ ≡ replicate (length work) nought → index′ ≡ replicate (length index) 0
+      → LadderCall call s degree v (lent poles flat knots mults work index) (lent poles′ flat′ knots′ mults′ work′ index′) r
+  unfolding resultOf checked cleared
+  call-passed {poles} {poles′} {flat} {flat′} {knots} {knots′} {work} {work₁} {mults} {mults′} {index} {index₁} {r} e h work′ index′ w i =
+      let l = lent poles flat knots mults work index in
+      let q : resultOf call s degree v l ≡ ladderFit v s degree (fitBy call) = ap (λ (u : Verdict). checked u (ladderFit v s degree (fitBy call))) (sym e) in
+      record {
+        hands = record { answer = h .answer ∙ ap (answerOf degree) (sym q); poles = h .poles ∙ ap (λ (x : Result). handedPoles x poles) (sym q); flat = h .flat ∙ ap (λ (x : Result). handedFlat x flat) (sym q); knots = h .knots ∙ ap (λ (x : Result). handedKnots x knots) (sym q); mults = h .mults ∙ ap (λ (x : Result). handedMults x mults) (sym q) };
+        number = ap answerNumber (h .answer ∙ ap (answerOf degree) (sym q)) ∙ number-of degree (resultOf call s degree v l);
+        work = w ∙ ap (λ (u : Verdict). cleared nought u work) e;
+        index = i ∙ ap (λ (u : Verdict). cleared 0 u index) e;
+      }

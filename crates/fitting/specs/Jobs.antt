@@ -18,9 +18,9 @@ use Rattle.fitting.specs.declared.Attempt.{Attempt}
 use Rattle.fitting.specs.declared.Attempt.the-variants.{Unfitted, Fitting}
 use Rattle.fitting.specs.declared.Turn.{Turn}
 use Rattle.fitting.specs.declared.Turn.the-variants.{Ended, Fits, Next}
-use Rattle.fitting.specs.declared.Rounds.{Rounds}
-use Rattle.fitting.specs.declared.Rounds.the-variants.{Stuck, Fitted}
-use Rattle.fitting.specs.Within.{Candidate, candidate, tableOn, fitOn, fitOnSpread, interpolate, Refining, going, fitted, stuck, refinementRound, fitWithRefinedKnots, passesOnSpread}
+use Rattle.fitting.specs.declared.Reached.{Reached}
+use Rattle.fitting.specs.declared.Reached.the-variants.{Missed, Met}
+use Rattle.fitting.specs.Within.{Candidate, Marked, spread, candidate, tableOn, fitOn, fitOnSpread, fitOnSpreadKnots, interpolate, Refining, going, fitted, stuck, refinementRound, fitWithRefinedKnots, passesOnSpread}
 
 -- the direction whose data and parameters stand in the slices: a ladder's points are a slice of their own, its parameters stand in the work
 unfoldable pub directionOf : Job → List Float → List Float → Direction
@@ -106,18 +106,22 @@ pub record Turns (j : Job) (points : List Float) (l : ℕ) (tolerance : Float) (
   pub firsts : length index′ ≡ length index
   pub kept : Kept (j .flat) (j .fresh + j .table .count) w w′
 
--- what stands in the slices where refinement gave a fit, by how many flat knots it has
-unfoldable pub refinedIn : Rounds → (ℕ → Candidate) → Option Candidate
-refinedIn Stuck f = none
-refinedIn (Fitted l x) f = some (f l)
-
--- What refinement from a single Bézier piece leaves: no fit; or a fit, which stands there, and what its distances measure.
-pub record RefinesWithin (j : Job) (points : List Float) (tolerance : Float) (w w′ : List Float) (index index′ : List ℕ) (r : Rounds) : Type 0 where
-  pub answer : fitWithRefinedKnots (directionOf j points w) tolerance ≡ refinedIn r (λ (l : ℕ). candidateIn j points l w′)
-  pub measures : (l : ℕ) (x : Measured) → r ≡ Fitted l x → x ≡ measured (candidateIn j points l w′ .distances)
-  pub few : (l : ℕ) (x : Measured) → r ≡ Fitted l x → HasKnots j l
+-- What reaching for the tolerance leaves: where it was met, a fit stands there, with what its distances measure.
+pub record Reaches (j : Job) (points w w′ : List Float) (index index′ : List ℕ) (r : Reached) : Type 0 where
+  pub measures : (l : ℕ) (x : Measured) → r ≡ Met l x → x ≡ measured (candidateIn j points l w′ .distances)
+  pub few : (l : ℕ) (x : Measured) → r ≡ Met l x → HasKnots j l
   pub firsts : length index′ ≡ length index
   pub kept : Kept (j .flat) (j .fresh + j .table .count) w w′
+
+-- the fit, by how many flat knots it has
+unfoldable pub refinedIn : Reached → (ℕ → Candidate) → Option Candidate
+refinedIn Missed f = none
+refinedIn (Met l x) f = some (f l)
+
+-- What refinement from a single Bézier piece leaves.
+pub record RefinesWithin (j : Job) (points : List Float) (tolerance : Float) (w w′ : List Float) (index index′ : List ℕ) (r : Reached) : Type 0 where
+  pub answer : fitWithRefinedKnots (directionOf j points w) tolerance ≡ refinedIn r (λ (l : ℕ). candidateIn j points l w′)
+  pub reaches : Reaches j points w w′ index index′ r
 
 -- What the test of a pole count on spread knots leaves: only knots, table, band, poles and deviations were written.
 pub record Tested (j : Job) (points : List Float) (tolerance : Float) (m : ℕ) (w w′ : List Float) (index index′ : List ℕ) (r : Bool) : Type 0 where
@@ -131,15 +135,12 @@ pub record FewestFound (j : Job) (points : List Float) (tolerance : Float) (last
   pub firsts : length index′ ≡ length index
   pub kept : Kept (j .flat) (j .deviations + j .table .count) w w′
 
--- a pole count that has a fit on spread knots, as one that the search found
-pub record HasSpread (j : Job) (points : List Float) (m : ℕ) (w : List Float) : Type 0 where
-  pub least : j .table .degree < m
-  pub most : m ≤ j .table .count
-  pub fits : fitOnSpread (directionOf j points w) m ≡ none → ⊥
+-- the fit, by how many flat knots it has, and another where there is none
+unfoldable pub spreadIn : ℕ → Marked → Reached → (ℕ → Candidate) → Marked
+spreadIn degree other Missed f = other
+spreadIn degree other (Met l x) f = spread (l - degree - 1) (f l)
 
--- What the fit with such a count leaves: the fit, and what its distances measure.
-pub record FoundAgain (j : Job) (points : List Float) (m : ℕ) (w w′ : List Float) (index index′ : List ℕ) (r : Measured) : Type 0 where
-  pub fit : fitOnSpread (directionOf j points w) m ≡ some (candidateIn j points (m + j .table .degree + 1) w′)
-  pub measures : r ≡ measured (candidateIn j points (m + j .table .degree + 1) w′ .distances)
-  pub firsts : length index′ ≡ length index
-  pub kept : Kept (j .flat) (j .deviations + j .table .count) w w′
+-- What the spread search below `last` leaves.
+pub record SpreadsBelow (j : Job) (points : List Float) (tolerance : Float) (last : ℕ) (w w′ : List Float) (index index′ : List ℕ) (r : Reached) : Type 0 where
+  pub answer : (other : Marked) → fitOnSpreadKnots (directionOf j points w) tolerance last other ≡ spreadIn (j .table .degree) other r (λ (l : ℕ). candidateIn j points l w′)
+  pub reaches : Reaches j points w w′ index index′ r

@@ -26,9 +26,11 @@ use Rattle.fitting.specs.declared.Fit.{Fit}
 use Rattle.fitting.specs.declared.Room.{Room}
 use Rattle.fitting.specs.declared.Answer.{Answer}
 use Rattle.fitting.specs.declared.Answer.the-variants.{Fitted, Refused}
+use Rattle.fitting.specs.declared.Call.{Call}
+use Rattle.fitting.specs.declared.Call.the-variants.{Interpolate, Approximate, ApproximateWithin, SearchSpread}
 use Rattle.fitting.specs.Within.{Candidate, Marked, interpolated, chosen, interpolate, fitOnSpread, fitWithin, spreadAlone, fitWithRefinedKnots, passesOnSpread}
 use Rattle.fitting.specs.Marks.{unmarked, fitOf}
-use Rattle.fitting.specs.Kept.{NoneAbove, Fails}
+use Rattle.fitting.specs.Tolerance.{NoneAbove, Fails}
 
 -- the lent slices of a ladder call
 pub record Lent : Type 0 where
@@ -38,6 +40,9 @@ pub record Lent : Type 0 where
   pub mults : List ℕ
   pub work : List Float
   pub index : List ℕ
+
+abbrev pub lent : List Float → List Float → List Float → List ℕ → List Float → List ℕ → Lent
+lent poles flat knots mults work index = record { poles = poles; flat = flat; knots = knots; mults = mults; work = work; index = index }
 
 -- how many points a slice of places has
 abbrev pub pointCount : List Float → ℕ
@@ -60,6 +65,12 @@ chosenVerdict n degree count = stop-if (ltb (count - 1) degree) DegreeTooHigh ne
 unfoldable pub unchosenVerdict : ℕ → ℕ → Verdict
 unchosenVerdict n degree = stop-if (ltb (n - 1) degree) DegreeTooHigh
 
+unfoldable pub countVerdict : Call → ℕ → ℕ → Verdict
+countVerdict Interpolate n degree = unchosenVerdict n degree
+countVerdict (Approximate count) n degree = chosenVerdict n degree count
+countVerdict (ApproximateWithin t) n degree = unchosenVerdict n degree
+countVerdict (SearchSpread t) n degree = unchosenVerdict n degree
+
 -- 9, by the lengths of the lent slices
 abbrev pub roomOf : Lent → Room
 roomOf l = record { poles = length (l .poles); flat = length (l .flat); knots = length (l .knots); mults = length (l .mults); work = length (l .work); index = length (l .index) }
@@ -78,15 +89,9 @@ unfoldable pub coordinatesVerdict : List Float → Verdict
 coordinatesVerdict s = stop-if (someBelow (length s) (λ k. outside (at s k))) CoordinateOutOfRange
 
 -- one after the other
-unfoldable pub ladderChecks : List Float → ℕ → Verdict → Lent → Verdict
-ladderChecks s degree poleVerdict l =
-    shapeVerdict (length s) degree next poleVerdict next roomVerdict (pointCount s) degree (roomOf l) next coordinatesVerdict s
-
-abbrev pub chosenChecks : List Float → ℕ → ℕ → Lent → Verdict
-chosenChecks s degree count l = ladderChecks s degree (chosenVerdict (pointCount s) degree count) l
-
-abbrev pub unchosenChecks : List Float → ℕ → Lent → Verdict
-unchosenChecks s degree l = ladderChecks s degree (unchosenVerdict (pointCount s) degree) l
+unfoldable pub ladderChecks : Call → List Float → ℕ → Lent → Verdict
+ladderChecks call s degree l =
+    shapeVerdict (length s) degree next countVerdict call (pointCount s) degree next roomVerdict (pointCount s) degree (roomOf l) next coordinatesVerdict s
 
 -- what they give: the shape of the points, and room for n points of degree p
 pub record Shaped (places p : ℕ) : Type 0 where
@@ -116,17 +121,11 @@ chosenOr c none = refused c
 chosenOr c (some f) = accepted (chosen f)
 
 -- the four calls, on a ladder with its parameters
-unfoldable pub interpolateFit : Direction → Result
-interpolateFit d = accepted (interpolated (interpolate d))
-
-unfoldable pub approximateFit : ℕ → Direction → Result
-approximateFit count d = chosenOr PoleCountMismatch (fitOnSpread d count)
-
-unfoldable pub withinFit : Float → Direction → Result
-withinFit t d = accepted (fitWithin d t)
-
-unfoldable pub spreadFit : Float → Direction → Result
-spreadFit t d = accepted (spreadAlone d t)
+unfoldable pub fitBy : Call → Direction → Result
+fitBy Interpolate d = accepted (interpolated (interpolate d))
+fitBy (Approximate count) d = chosenOr PoleCountMismatch (fitOnSpread d count)
+fitBy (ApproximateWithin t) d = accepted (fitWithin d t)
+fitBy (SearchSpread t) d = accepted (spreadAlone d t)
 
 -- with the parameters, or 5 where neighbours are confused
 unfoldable pub fitWith : List Float → ℕ → (Direction → Result) → Option (List Float) → Result
@@ -140,6 +139,9 @@ ladderFit v s degree fit = fitWith s degree fit (pointParameters v (pointCount s
 unfoldable pub checked : Verdict → Result → Result
 checked Pass r = r
 checked (Stop c) r = refused c
+
+unfoldable pub resultOf : Call → List Float → ℕ → Spacing → Lent → Result
+resultOf call s degree v l = checked (ladderChecks call s degree l) (ladderFit v s degree (fitBy call))
 
 -- ---- what is handed back
 
@@ -180,16 +182,20 @@ unfoldable pub cleared : {A : Type 0} → A → Verdict → List A → List A
 cleared z (Stop c) xs = xs
 cleared z Pass xs = replicate (length xs) z
 
--- The contract of a ladder call, by its checks and by what it makes of a ladder that passes them. The slices are l as lent and l′ at exit.
-pub record LadderCall (degree : ℕ) (checks : Verdict) (fit : Result) (l l′ : Lent) (r : Answer) : Type 0 where
-  pub answer : r ≡ answerOf degree (checked checks fit)
-  pub number : answerNumber r ≡ resultNumber (checked checks fit)
-  pub poles : l′ .poles ≡ handedPoles (checked checks fit) (l .poles)
-  pub flat : l′ .flat ≡ handedFlat (checked checks fit) (l .flat)
-  pub knots : l′ .knots ≡ handedKnots (checked checks fit) (l .knots)
-  pub mults : l′ .mults ≡ handedMults (checked checks fit) (l .mults)
-  pub work : l′ .work ≡ cleared nought checks (l .work)
-  pub index : l′ .index ≡ cleared 0 checks (l .index)
+-- the answer and the output slices. The slices are l as lent and l′ at exit.
+pub record HandsOut (degree : ℕ) (fit : Result) (l l′ : Lent) (r : Answer) : Type 0 where
+  pub answer : r ≡ answerOf degree fit
+  pub poles : l′ .poles ≡ handedPoles fit (l .poles)
+  pub flat : l′ .flat ≡ handedFlat fit (l .flat)
+  pub knots : l′ .knots ≡ handedKnots fit (l .knots)
+  pub mults : l′ .mults ≡ handedMults fit (l .mults)
+
+-- The contract of a ladder call.
+pub record LadderCall (call : Call) (s : List Float) (degree : ℕ) (v : Spacing) (l l′ : Lent) (r : Answer) : Type 0 where
+  pub hands : HandsOut degree (resultOf call s degree v l) l l′ r
+  pub number : answerNumber r ≡ resultNumber (resultOf call s degree v l)
+  pub work : l′ .work ≡ cleared nought (ladderChecks call s degree l) (l .work)
+  pub index : l′ .index ≡ cleared 0 (ladderChecks call s degree l) (l .index)
 
 abbrev pub paramsOr : Option (List Float) → List Float
 paramsOr none = []
@@ -218,20 +224,20 @@ module _ (v : Spacing) (s : List Float) (degree : ℕ) where
 
 -- `interpolate`
 pub record Interpolates (s : List Float) (degree : ℕ) (v : Spacing) (l l′ : Lent) (r : Answer) : Type 0 where
-  pub call : LadderCall degree (unchosenChecks s degree l) (ladderFit v s degree interpolateFit) l l′ r
+  pub call : LadderCall Interpolate s degree v l l′ r
 
 -- `approximate`, with a chosen pole count
 pub record Approximates (s : List Float) (degree count : ℕ) (v : Spacing) (l l′ : Lent) (r : Answer) : Type 0 where
-  pub call : LadderCall degree (chosenChecks s degree count l) (ladderFit v s degree (approximateFit count)) l l′ r
+  pub call : LadderCall (Approximate count) s degree v l l′ r
 
 -- `approximate_within`, with demand 3
 pub record ApproximatesWithin (s : List Float) (degree : ℕ) (t : Float) (v : Spacing) (l l′ : Lent) (r : Answer) : Type 0 where
-  pub call : LadderCall degree (unchosenChecks s degree l) (ladderFit v s degree (withinFit t)) l l′ r
+  pub call : LadderCall (ApproximateWithin t) s degree v l l′ r
   pub kept : LadderKept v s degree t (fitWithRefinedKnots (ladderOf v s degree) t) l′ r
 
 -- the spread search alone, with demand 3
 pub record SearchesSpread (s : List Float) (degree : ℕ) (t : Float) (v : Spacing) (l l′ : Lent) (r : Answer) : Type 0 where
-  pub call : LadderCall degree (unchosenChecks s degree l) (ladderFit v s degree (spreadFit t)) l l′ r
+  pub call : LadderCall (SearchSpread t) s degree v l l′ r
   pub kept : LadderKept v s degree t none l′ r
 
 -- The second half of demand 3: two calls of the spread search alone on the same ladder and with the same slices lent, the first tolerance at or below the second.

@@ -1,7 +1,7 @@
 -- Fits of one direction, their marks, demand 3, and the ladder calls.
 pub mod Within
 pub mod Marks
-pub mod Kept
+pub mod Tolerance
 pub mod Ladders
 pub mod HandedOut
 pub mod Jobs

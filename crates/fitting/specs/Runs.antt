@@ -1,17 +1,24 @@
--- What a ladder call does after its checks: the regions of a ladder in the lent slices, and what is handed out of a fit. Definitions only.
+-- What a ladder call does after its checks: the regions of a ladder in the lent slices, and the fit that then stands there. Definitions only.
 use mathlib.Core.Path.{_≡_}
 use mathlib.Core.List.{List}
-use Prim.Native.Nat.{ℕ, _+_, _*_}
+use Prim.Native.Nat.{ℕ, _+_, _-_, _*_}
+use lib.ListN.{length}
 use lib.Ieee.{Float}
+use Rattle.geometry.specs.Doubles.{largest}
 use Rattle.tables.specs.declared.Table.{Table}
 use Rattle.tables.specs.declared.Data.{Data}
+use Rattle.tables.specs.Layout.{Kept}
+use Rattle.tables.specs.Deviations.{unreadable}
 use Rattle.fitting.specs.declared.Job.{Job}
-use Rattle.fitting.specs.declared.Answer.{Answer}
-use Rattle.fitting.specs.Ladders.{Lent, Result, answerOf, handedPoles, handedFlat, handedKnots, handedMults}
-
--- the lent slices, by their lists
-abbrev pub lent : List Float → List Float → List Float → List ℕ → List Float → List ℕ → Lent
-lent poles flat knots mults work index = record { poles = poles; flat = flat; knots = knots; mults = mults; work = work; index = index }
+use Rattle.fitting.specs.declared.Mark.{Mark}
+use Rattle.fitting.specs.declared.Mark.the-variants.{Refined, Spread, Interpolated, Chosen}
+use Rattle.fitting.specs.declared.Standing.{Standing}
+use Rattle.fitting.specs.declared.Made.{Made}
+use Rattle.fitting.specs.declared.Made.the-variants.{Fails, Stands}
+use Rattle.fitting.specs.Within.{Candidate, Marked, refined, spread, interpolated, chosen}
+use Rattle.fitting.specs.Marks.{largestDeviation}
+use Rattle.fitting.specs.Ladders.{Result, refused, accepted}
+use Rattle.fitting.specs.Jobs.{HasKnots, candidateIn}
 
 -- n points of degree p: the regions one after the other from place 0 on
 abbrev pub ladderJob : ℕ → ℕ → Job
@@ -31,10 +38,26 @@ ladderJob n p =
       fresh = deviations + n;
     }
 
--- the answer and the output slices, as the contract of a call has them
-pub record HandsOut (degree : ℕ) (fit : Result) (l l′ : Lent) (r : Answer) : Type 0 where
-  pub answer : r ≡ answerOf degree fit
-  pub poles : l′ .poles ≡ handedPoles fit (l .poles)
-  pub flat : l′ .flat ≡ handedFlat fit (l .flat)
-  pub knots : l′ .knots ≡ handedKnots fit (l .knots)
-  pub mults : l′ .mults ≡ handedMults fit (l .mults)
+-- a fit by its mark; m poles
+unfoldable pub markedAs : Mark → ℕ → Candidate → Marked
+markedAs (Refined x) m f = refined f
+markedAs (Spread x) m f = spread m f
+markedAs (Interpolated x) m f = interpolated f
+markedAs (Chosen x) m f = chosen f
+
+-- the fit that stands in the regions
+unfoldable pub standingIn : Job → List Float → List Float → Standing → Marked
+standingIn j points w x = markedAs (x .mark) (x .flat - j .table .degree - 1) (candidateIn j points (x .flat) w)
+
+unfoldable pub madeIn : Made → (Standing → Marked) → Result
+madeIn (Fails c) f = refused c
+madeIn (Stands x) f = accepted (f x)
+
+-- What a call makes of the direction in the slices: a refusal; or a fit, which stands there, and what its distances measure.
+pub record Makes (j : Job) (points : List Float) (fit : Result) (w w′ : List Float) (index index′ : List ℕ) (r : Made) : Type 0 where
+  pub answer : fit ≡ madeIn r (standingIn j points w′)
+  pub most : (x : Standing) → r ≡ Stands x → largestDeviation (x .mark) ≡ largest (candidateIn j points (x .flat) w′ .distances)
+  pub unread : (x : Standing) → r ≡ Stands x → x .unreadable ≡ unreadable (candidateIn j points (x .flat) w′ .distances)
+  pub few : (x : Standing) → r ≡ Stands x → HasKnots j (x .flat)
+  pub firsts : length index′ ≡ length index
+  pub kept : Kept (j .flat) (j .fresh + j .table .count) w w′

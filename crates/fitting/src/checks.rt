@@ -3,7 +3,8 @@ ghost use mathlib.Core.Path.{_≡_};
 ghost use Prim.Native.Nat.{ℕ, _-_, _/_, _≤_};
 ghost use lib.ListN.{length};
 ghost use Rattle.bspline.specs.Refusals.{outside, _next_};
-ghost use Rattle.fitting.specs.Ladders.{shapeVerdict, chosenVerdict, unchosenVerdict, roomVerdict, coordinatesVerdict};
+ghost use Rattle.fitting.specs.Ladders.{shapeVerdict, chosenVerdict, unchosenVerdict, countVerdict, roomVerdict, coordinatesVerdict};
+use crate::Call;
 use crate::Room;
 use bspline::Refusal;
 use bspline::Verdict;
@@ -38,7 +39,7 @@ fn one_less(n: usize) -> usize
 }
 
 // 3 and 4 where a pole count is chosen: 0 poles count as 1.
-pub fn check_chosen(n: usize, degree: usize, count: usize) -> Verdict
+fn check_chosen(n: usize, degree: usize, count: usize) -> Verdict
     ensures { λ r. ⌜ r ≡ chosenVerdict n degree count ⌝ }
 {
     if one_less(count) < degree {
@@ -51,13 +52,25 @@ pub fn check_chosen(n: usize, degree: usize, count: usize) -> Verdict
 }
 
 // 3 where none is.
-pub fn check_unchosen(n: usize, degree: usize) -> Verdict
+fn check_unchosen(n: usize, degree: usize) -> Verdict
     ensures { λ r. ⌜ r ≡ unchosenVerdict n degree ⌝ }
 {
     if one_less(n) < degree {
         return Verdict::Stop(Refusal::DegreeTooHigh);
     }
     Verdict::Pass
+}
+
+// 3 and 4.
+pub fn check_count(call: Call, n: usize, degree: usize) -> Verdict
+    ensures { λ r. ⌜ r ≡ countVerdict call n degree ⌝ }
+{
+    match call {
+        Call::Interpolate => check_unchosen(n, degree),
+        Call::Approximate(count) => check_chosen(n, degree, count),
+        Call::ApproximateWithin(_) => check_unchosen(n, degree),
+        Call::SearchSpread(_) => check_unchosen(n, degree),
+    }
 }
 
 // 9.

@@ -1,12 +1,12 @@
 // Pole counts on spread knots: document 01's test of a count, and the search for the fewest poles that pass it.
 ghost use Prim.Native.Nat.{_≤_, _<_};
-ghost use Rattle.fitting.specs.Jobs.{HasJob, HasSpread, Tested, FewestFound, FoundAgain};
+ghost use Rattle.fitting.specs.Jobs.{HasJob, Tested, FewestFound, SpreadsBelow};
 use crate::Attempt;
 use crate::Job;
+use crate::Reached;
 use search::Found;
 use search::Next;
 use search::Search;
-use tables::Measured;
 
 // Document 01's test of a pole count on spread knots.
 pub fn passes(
@@ -56,22 +56,23 @@ pub fn fewest_poles(
     s.found(last)
 }
 
-// The fit with the poles that the search found, once more: it stands in its place. A count that was found has a fit.
-pub fn fit_found(
+// The fit on spread knots with the poles that the search finds below `last`. The search's tries stand in the same regions, so its fit is made once more.
+pub fn fit_on_spread_knots(
     work: &mut [f64],
     index: &mut [usize],
     points: &[f64],
     job: Job,
-    m: usize,
-) -> Measured
-    requires { ⌜ HasJob job (now points) (now work) (now index) × HasSpread job (now points) m (now work) ⌝ }
-    ensures { λ r. ⌜ FoundAgain job (now (points .entry)) m (now (work .entry)) (now (work .exit)) (now (index .entry)) (now (index .exit)) r ⌝ }
+    tolerance: f64,
+    last: usize,
+) -> Reached
+    requires { ⌜ HasJob job (now points) (now work) (now index) × (job .table .degree < last) × (last ≤ job .table .count) ⌝ }
+    ensures { λ r. ⌜ SpreadsBelow job (now (points .entry)) tolerance last (now (work .entry)) (now (work .exit)) (now (index .entry)) (now (index .exit)) r ⌝ }
 {
-    match crate::attempts::attempt_spread(work, index, points, job, m) {
-        Attempt::Unfitted => Measured {
-            largest: 0.0,
-            unreadable: 0,
+    match fewest_poles(work, index, points, job, tolerance, last) {
+        Found::Nothing => Reached::Missed,
+        Found::At(m) => match crate::attempts::attempt_spread(work, index, points, job, m) {
+            Attempt::Unfitted => Reached::Missed,
+            Attempt::Fitting(x) => Reached::Met(m + job.table.degree + 1, x),
         },
-        Attempt::Fitting(x) => x,
     }
 }

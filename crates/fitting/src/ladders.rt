@@ -2,13 +2,15 @@
 ghost use mathlib.Core.Path.{_≡_};
 ghost use Prim.Native.Nat.{_-_, _*_, _/_, _≤_};
 ghost use lib.ListN.{length};
-ghost use Rattle.fitting.specs.Ladders.{Roomy, Shaped, Interpolates, roomOf, ladderFit, interpolateFit};
+ghost use Rattle.bspline.specs.declared.Verdict.the-variants.{Pass};
+ghost use Rattle.fitting.specs.Ladders.{Roomy, Shaped, lent, roomOf, countVerdict, fitBy, ladderFit, HandsOut, LadderCall, Interpolates, Approximates, ApproximatesWithin, SearchesSpread};
 ghost use Rattle.fitting.specs.Jobs.{HasJob, directionOf};
-ghost use Rattle.fitting.specs.Runs.{lent, ladderJob, HandsOut};
+ghost use Rattle.fitting.specs.Runs.{ladderJob};
 use crate::Answer;
+use crate::Call;
 use crate::Fit;
 use crate::Job;
-use crate::Mark;
+use crate::Made;
 use crate::Room;
 use bspline::Refusal;
 use bspline::Verdict;
@@ -47,10 +49,11 @@ fn ladder_job(n: usize, degree: usize) -> Job
     }
 }
 
-// The interpolation of the points whose parameters stand in the work, handed out.
-fn hand_interpolation(
+// The call on the points whose parameters stand in the work, handed out.
+fn hand_made(
     points: &[f64],
     job: Job,
+    call: Call,
     poles: &mut [f64],
     flat: &mut [f64],
     knots: &mut [f64],
@@ -58,38 +61,45 @@ fn hand_interpolation(
     work: &mut [f64],
     index: &mut [usize],
 ) -> Answer
-    requires { ⌜ HasJob job (now points) (now work) (now index) ⌝ }
+    requires { ⌜ HasJob job (now points) (now work) (now index) × (countVerdict call (job .table .count) (job .table .degree) ≡ Pass) ⌝ }
     requires { ⌜ Roomy (job .table .count) (job .table .degree) (roomOf (lent (now poles) (now flat) (now knots) (now mults) (now work) (now index))) ⌝ }
-    ensures { λ r. ⌜ HandsOut (job .table .degree) (interpolateFit (directionOf job (now (points .entry)) (now (work .entry))))
+    ensures { λ r. ⌜ HandsOut (job .table .degree) (fitBy call (directionOf job (now (points .entry)) (now (work .entry))))
         (lent (now (poles .entry)) (now (flat .entry)) (now (knots .entry)) (now (mults .entry)) (now (work .entry)) (now (index .entry)))
         (lent (now (poles .exit)) (now (flat .exit)) (now (knots .exit)) (now (mults .exit)) (now (work .exit)) (now (index .exit))) r ⌝ }
 {
-    let n = job.table.count;
-    let m = crate::attempts::pass_through(work, index, points, job);
-    let count = crate::output::hand_out(
-        work,
-        job.poles,
-        job.flat,
-        n,
-        job.table.degree,
-        poles,
-        flat,
-        knots,
-        mults,
-    );
-    Answer::Fitted(Fit {
-        mark: Mark::Interpolated(m.largest),
-        poles: n,
-        knots: count,
-        unreadable: m.unreadable,
-    })
+    match crate::making::make(work, index, points, job, call) {
+        Made::Fails(c) => Answer::Refused(c),
+        Made::Stands(x) => {
+            let degree = job.table.degree;
+            let m = x.flat - degree - 1;
+            let mark = x.mark;
+            let count = crate::output::hand_out(
+                work,
+                job.poles,
+                job.flat,
+                m,
+                degree,
+                poles,
+                flat,
+                knots,
+                mults,
+            );
+            Answer::Fitted(Fit {
+                mark,
+                poles: m,
+                knots: count,
+                unreadable: x.unreadable,
+            })
+        }
+    }
 }
 
-// The interpolation of a ladder that passed the checks, or 5.
-fn interpolate_passed(
+// The call on a ladder that passed the checks, or 5.
+fn fit_passed(
     points: &[f64],
     degree: usize,
     spacing: Spacing,
+    call: Call,
     poles: &mut [f64],
     flat: &mut [f64],
     knots: &mut [f64],
@@ -97,9 +107,9 @@ fn interpolate_passed(
     work: &mut [f64],
     index: &mut [usize],
 ) -> Answer
-    requires { ⌜ Shaped (length (now points)) degree × (degree ≤ length (now points) / 3 - 1) ⌝ }
+    requires { ⌜ Shaped (length (now points)) degree × (countVerdict call (length (now points) / 3) degree ≡ Pass) ⌝ }
     requires { ⌜ Roomy (length (now points) / 3) degree (roomOf (lent (now poles) (now flat) (now knots) (now mults) (now work) (now index))) ⌝ }
-    ensures { λ r. ⌜ HandsOut degree (ladderFit spacing (now (points .entry)) degree interpolateFit)
+    ensures { λ r. ⌜ HandsOut degree (ladderFit spacing (now (points .entry)) degree (fitBy call))
         (lent (now (poles .entry)) (now (flat .entry)) (now (knots .entry)) (now (mults .entry)) (now (work .entry)) (now (index .entry)))
         (lent (now (poles .exit)) (now (flat .exit)) (now (knots .exit)) (now (mults .exit)) (now (work .exit)) (now (index .exit))) r ⌝ }
 {
@@ -108,7 +118,55 @@ fn interpolate_passed(
         return Answer::Refused(Refusal::ConfusedPoints);
     }
     let job = ladder_job(n, degree);
-    hand_interpolation(points, job, poles, flat, knots, mults, work, index)
+    hand_made(points, job, call, poles, flat, knots, mults, work, index)
+}
+
+// Any of the calls.
+pub fn fit_ladder(
+    points: &[f64],
+    degree: usize,
+    spacing: Spacing,
+    call: Call,
+    poles: &mut [f64],
+    flat: &mut [f64],
+    knots: &mut [f64],
+    mults: &mut [u32],
+    work: &mut [f64],
+    index: &mut [usize],
+) -> Answer
+    ensures { λ r. ⌜ LadderCall call (now (points .entry)) degree spacing
+        (lent (now (poles .entry)) (now (flat .entry)) (now (knots .entry)) (now (mults .entry)) (now (work .entry)) (now (index .entry)))
+        (lent (now (poles .exit)) (now (flat .exit)) (now (knots .exit)) (now (mults .exit)) (now (work .exit)) (now (index .exit))) r ⌝ }
+{
+    let room = Room {
+        poles: poles.len(),
+        flat: flat.len(),
+        knots: knots.len(),
+        mults: mults.len(),
+        work: work.len(),
+        index: index.len(),
+    };
+    let counts = crate::checks::check_count(call, points.len() / 3, degree);
+    match crate::checks::check_ladder(points, degree, counts, room) {
+        Verdict::Stop(c) => Answer::Refused(c),
+        Verdict::Pass => {
+            let r = fit_passed(
+                points,
+                degree,
+                spacing,
+                call,
+                poles,
+                flat,
+                knots,
+                mults,
+                work,
+                index,
+            );
+            places::clear(work);
+            places::clear_index(index);
+            r
+        }
+    }
 }
 
 // `interpolate`: the curve through the points, with as many poles.
@@ -127,32 +185,113 @@ pub fn interpolate(
         (lent (now (poles .entry)) (now (flat .entry)) (now (knots .entry)) (now (mults .entry)) (now (work .entry)) (now (index .entry)))
         (lent (now (poles .exit)) (now (flat .exit)) (now (knots .exit)) (now (mults .exit)) (now (work .exit)) (now (index .exit))) r ⌝ }
 {
-    let room = Room {
-        poles: poles.len(),
-        flat: flat.len(),
-        knots: knots.len(),
-        mults: mults.len(),
-        work: work.len(),
-        index: index.len(),
-    };
-    let counts = crate::checks::check_unchosen(points.len() / 3, degree);
-    match crate::checks::check_ladder(points, degree, counts, room) {
-        Verdict::Stop(c) => Answer::Refused(c),
-        Verdict::Pass => {
-            let r = interpolate_passed(
-                points,
-                degree,
-                spacing,
-                poles,
-                flat,
-                knots,
-                mults,
-                work,
-                index,
-            );
-            places::clear(work);
-            places::clear_index(index);
-            r
-        }
-    }
+    let call = Call::Interpolate;
+    fit_ladder(
+        points,
+        degree,
+        spacing,
+        call,
+        poles,
+        flat,
+        knots,
+        mults,
+        work,
+        index,
+    )
+}
+
+// `approximate`: least squares with a chosen pole count.
+pub fn approximate(
+    points: &[f64],
+    degree: usize,
+    count: usize,
+    spacing: Spacing,
+    poles: &mut [f64],
+    flat: &mut [f64],
+    knots: &mut [f64],
+    mults: &mut [u32],
+    work: &mut [f64],
+    index: &mut [usize],
+) -> Answer
+    ensures { λ r. ⌜ Approximates (now (points .entry)) degree count spacing
+        (lent (now (poles .entry)) (now (flat .entry)) (now (knots .entry)) (now (mults .entry)) (now (work .entry)) (now (index .entry)))
+        (lent (now (poles .exit)) (now (flat .exit)) (now (knots .exit)) (now (mults .exit)) (now (work .exit)) (now (index .exit))) r ⌝ }
+{
+    let call = Call::Approximate(count);
+    fit_ladder(
+        points,
+        degree,
+        spacing,
+        call,
+        poles,
+        flat,
+        knots,
+        mults,
+        work,
+        index,
+    )
+}
+
+// `approximate_within`: refinement, else the spread search, else the curve through the points.
+pub fn approximate_within(
+    points: &[f64],
+    degree: usize,
+    tolerance: f64,
+    spacing: Spacing,
+    poles: &mut [f64],
+    flat: &mut [f64],
+    knots: &mut [f64],
+    mults: &mut [u32],
+    work: &mut [f64],
+    index: &mut [usize],
+) -> Answer
+    ensures { λ r. ⌜ ApproximatesWithin (now (points .entry)) degree tolerance spacing
+        (lent (now (poles .entry)) (now (flat .entry)) (now (knots .entry)) (now (mults .entry)) (now (work .entry)) (now (index .entry)))
+        (lent (now (poles .exit)) (now (flat .exit)) (now (knots .exit)) (now (mults .exit)) (now (work .exit)) (now (index .exit))) r ⌝ }
+{
+    let call = Call::ApproximateWithin(tolerance);
+    fit_ladder(
+        points,
+        degree,
+        spacing,
+        call,
+        poles,
+        flat,
+        knots,
+        mults,
+        work,
+        index,
+    )
+}
+
+// The spread search alone, else the curve through the points.
+pub fn search_spread(
+    points: &[f64],
+    degree: usize,
+    tolerance: f64,
+    spacing: Spacing,
+    poles: &mut [f64],
+    flat: &mut [f64],
+    knots: &mut [f64],
+    mults: &mut [u32],
+    work: &mut [f64],
+    index: &mut [usize],
+) -> Answer
+    ensures { λ r. ⌜ SearchesSpread (now (points .entry)) degree tolerance spacing
+        (lent (now (poles .entry)) (now (flat .entry)) (now (knots .entry)) (now (mults .entry)) (now (work .entry)) (now (index .entry)))
+        (lent (now (poles .exit)) (now (flat .exit)) (now (knots .exit)) (now (mults .exit)) (now (work .exit)) (now (index .exit))) r ⌝ }
+{
+    let call = Call::SearchSpread(tolerance);
+    fit_ladder(
+        points,
+        degree,
+        spacing,
+        call,
+        poles,
+        flat,
+        knots,
+        mults,
+        work,
+        index,
+    )
 }

@@ -3,6 +3,7 @@ pub mod attempts;
 pub mod checks;
 pub mod counts;
 pub mod ladders;
+pub mod making;
 pub mod output;
 pub mod refining;
 
@@ -68,8 +69,29 @@ pub enum Turn {
     Next(usize),
 }
 
-// What refinement comes to: nothing, or a fit on so many flat knots with what its distances measure.
-pub enum Rounds {
-    Stuck,
-    Fitted(usize, Measured),
+// Whether the tolerance was met: not, or by a fit on so many flat knots, with what its distances measure.
+pub enum Reached {
+    Missed,
+    Met(usize, Measured),
+}
+
+// Document 01's calls on a ladder: through the points, with a chosen pole count, within a tolerance, and the spread search alone.
+pub enum Call {
+    Interpolate,
+    Approximate(usize),
+    ApproximateWithin(f64),
+    SearchSpread(f64),
+}
+
+// A fit that stands in its job's regions: its mark, how many flat knots it has, and how many of its deviations are unreadable.
+pub struct Standing {
+    pub mark: Mark,
+    pub flat: usize,
+    pub unreadable: usize,
+}
+
+// What a call makes of a direction.
+pub enum Made {
+    Fails(Refusal),
+    Stands(Standing),
 }

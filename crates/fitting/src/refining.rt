@@ -2,7 +2,7 @@
 ghost use Rattle.fitting.specs.Jobs.{HasJob, HasKnots, Turns, RefinesWithin};
 use crate::Attempt;
 use crate::Job;
-use crate::Rounds;
+use crate::Reached;
 use crate::Turn;
 use crate::attempts;
 use refinement::Round;
@@ -54,7 +54,7 @@ pub fn refine_within(
     points: &[f64],
     job: Job,
     tolerance: f64,
-) -> Rounds
+) -> Reached
     requires { ⌜ HasJob job (now points) (now work) (now index) ⌝ }
     ensures { λ r. ⌜ RefinesWithin job (now (points .entry)) tolerance (now (work .entry)) (now (work .exit)) (now (index .entry)) (now (index .exit)) r ⌝ }
 {
@@ -63,10 +63,10 @@ pub fn refine_within(
     loop {
         match turn(work, index, points, job, l, tolerance) {
             Turn::Ended => {
-                return Rounds::Stuck;
+                return Reached::Missed;
             }
             Turn::Fits(m) => {
-                return Rounds::Fitted(l, m);
+                return Reached::Met(l, m);
             }
             Turn::Next(k) => {
                 l = k;

@@ -21,7 +21,7 @@ module _ {A : Type 0} where
   pub length-laid : (a n : ℕ) (f : ℕ → A) (xs : List A) → length (laid a n f xs) ≡ length xs
   unfolding laid
   length-laid a zero f xs = refl
-  length-laid a (suc n) f xs = length-set (laid a n f xs) (a + n) (f n) ∙ length-laid a n f xs
+  length-laid a (suc n) f xs = rw length-set (length-laid a n f xs)
 
   pub laid-none : (a : ℕ) (f : ℕ → A) (xs : List A) → laid a 0 f xs ≡ xs
   unfolding laid

@@ -1,7 +1,7 @@
 -- Each turn of the loop is a round, which ends it or leaves more knots; so the rounds that are left always come to the definition's, and the knots left to add
 -- fall. Assumes nothing.
 use Prim.Native.Nat.{_+_, _-_}
-use Rattle.fitting.specs.declared.Rounds.the-variants.{Stuck, Fitted}
+use Rattle.fitting.specs.declared.Reached.the-variants.{Missed, Met}
 use Rattle.fitting.proofs.RoundsLaws.{Rounding, rounding-ended, rounding-fits, rounding-next, loop-start, loop-end}
 use native.Mathlib.Omega.{arith}
 use borrow.Author.Needs.{needs}
@@ -49,7 +49,7 @@ returns c =
     let b = c .before .before .before .before .before .before .before .before .before .before .before .before .before .bezier-knots in
     let o = c .before .before .before .before .before .before .before .before .before .loop in
     let x = c .before .before .before .before .before .before .turn in
-    loop-end (a .job) (a .points .now) (a .work .now) (a .index .now) (s .pre) (b .last .0) (b .ensures) (a .tolerance) (x .last .0) (x .last .1 .0) Stuck
+    loop-end (a .job) (a .points .now) (a .work .now) (a .index .now) (s .pre) (b .last .0) (b .ensures) (a .tolerance) (x .last .0) (x .last .1 .0) Missed
     (rounding-ended (a .job) (a .points .now) (a .tolerance) (b .last .0) (a .index .now) (o .work) (o .index) (o .l) (o .inv) (x .last .0) (x .last .1 .0) (x .result) (x .ensures) (c .enum-told .given .1))
 
 enum-known-m : tie.Need-enum-known-m Inv-loop μ-loop
@@ -68,7 +68,7 @@ returns-2 c =
     let b = c .before .before .before .before .before .before .before .before .before .before .before .before .before .before .bezier-knots in
     let o = c .before .before .before .before .before .before .before .before .before .before .loop in
     let x = c .before .before .before .before .before .before .before .turn in
-    loop-end (a .job) (a .points .now) (a .work .now) (a .index .now) (s .pre) (b .last .0) (b .ensures) (a .tolerance) (x .last .0) (x .last .1 .0) (Fitted (o .l) (c .before .m .given .0 .0))
+    loop-end (a .job) (a .points .now) (a .work .now) (a .index .now) (s .pre) (b .last .0) (b .ensures) (a .tolerance) (x .last .0) (x .last .1 .0) (Met (o .l) (c .before .m .given .0 .0))
     (rounding-fits (a .job) (a .points .now) (a .tolerance) (b .last .0) (a .index .now) (o .work) (o .index) (o .l) (o .inv) (x .last .0) (x .last .1 .0) (x .result) (x .ensures) (c .before .m .given .0 .0) (c .before .m .given .1))
 
 enum-known-k : tie.Need-enum-known-k Inv-loop μ-loop

@@ -1,0 +1,147 @@
+-- What each call makes of a direction: the fit that stands in the regions is the definition's, with what its distances measure. Assumes nothing.
+use mathlib.Core.Path.{_≡_, refl, sym, ap, _∙_, subst}
+use mathlib.Core.List.{List}
+use mathlib.Core.Option.{Option}
+use Prim.Native.Nat.{ℕ, _+_, _-_}
+use native.Mathlib.Omega.{arith}
+use lib.ListN.{length}
+use lib.Ieee.{Float}
+use Rattle.geometry.specs.Doubles.{largest}
+use Rattle.bspline.specs.declared.Refusal.{Refusal}
+use Rattle.bspline.specs.declared.Refusal.the-variants.{PoleCountMismatch}
+use Rattle.tables.specs.declared.Measured.{Measured}
+use Rattle.tables.specs.Directions.{Direction, ladder}
+use Rattle.tables.specs.Deviations.{unreadable}
+use Rattle.tables.specs.Layout.{Kept}
+use Rattle.tables.specs.Measures.{measured}
+use Rattle.tables.proofs.KeptLaws.{kept-wider, kept-then}
+use Rattle.fitting.specs.declared.Job.{Job}
+use Rattle.fitting.specs.declared.Mark.{Mark}
+use Rattle.fitting.specs.declared.Mark.the-variants.{Refined, Spread, Interpolated, Chosen}
+use Rattle.fitting.specs.declared.Attempt.{Attempt}
+use Rattle.fitting.specs.declared.Attempt.the-variants.{Unfitted, Fitting}
+use Rattle.fitting.specs.declared.Reached.{Reached}
+use Rattle.fitting.specs.declared.Reached.the-variants.{Missed, Met}
+use Rattle.fitting.specs.declared.Call.the-variants.{Interpolate, Approximate, ApproximateWithin, SearchSpread}
+use Rattle.fitting.specs.declared.Standing.{Standing}
+use Rattle.fitting.specs.declared.Made.{Made}
+use Rattle.fitting.specs.declared.Made.the-variants.{Fails, Stands}
+use Rattle.fitting.specs.Within.{Candidate, Marked, interpolated, interpolate, fitOnSpread, fitOnSpreadKnots, spreadAlone, refinedOr, fitWithin}
+use Rattle.fitting.specs.Marks.{largestDeviation}
+use Rattle.fitting.specs.Ladders.{Result, refused, accepted, chosenOr, fitBy}
+use Rattle.fitting.specs.Jobs.{HasJob, HasKnots, directionOf, candidateIn, attempted, refinedIn, spreadIn, AttemptsSpread, PassesThrough, Reaches, RefinesWithin, SpreadsBelow}
+use Rattle.fitting.specs.Runs.{markedAs, standingIn, madeIn, Makes}
+use Rattle.fitting.proofs.AttemptLaws.{most-knots, spread-knots, params-long, met, direction-kept}
+
+module _ {j : Job} {points w w′ : List Float} {index index′ : List ℕ} where
+  pub fails : {fit : Result} (c : Refusal) → fit ≡ refused c → length index′ ≡ length index → Kept (j .flat) (j .fresh + j .table .count) w w′ → Makes j points fit w w′ index index′ (Fails c)
+  unfolding madeIn
+  fails c e f k = record {
+    answer = e;
+    most = λ x z. let u : _≡_ {A = ℕ} 0 1 = cc in absurd (omega arith);
+    unread = λ x z. let u : _≡_ {A = ℕ} 0 1 = cc in absurd (omega arith);
+    few = λ x z. let u : _≡_ {A = ℕ} 0 1 = cc in absurd (omega arith);
+    firsts = f;
+    kept = k;
+  }
+
+  -- a fit that met what was asked for stands there
+  pub stands : {fit : Result} (mk : Mark) (l : ℕ) (y : Measured) → fit ≡ accepted (markedAs mk (l - j .table .degree - 1) (candidateIn j points l w′)) → largestDeviation mk ≡ y .largest
+      → Reaches j points w w′ index index′ (Met l y) → Makes j points fit w w′ index index′ (Stands (record { mark = mk; flat = l; unreadable = y .unreadable }))
+  unfolding madeIn standingIn measured
+  stands mk l y e m r =
+      let here : Standing = record { mark = mk; flat = l; unreadable = y .unreadable } in
+      let q : y ≡ measured (candidateIn j points l w′ .distances) = r .measures l y refl in
+      record {
+        answer = e;
+        most = λ x z.
+            let u : here ≡ x = cc in
+            subst (λ (v : Standing). largestDeviation (v .mark) ≡ largest (candidateIn j points (v .flat) w′ .distances)) u (m ∙ ap (λ (v : Measured). v .largest) q);
+        unread = λ x z.
+            let u : here ≡ x = cc in
+            subst (λ (v : Standing). v .unreadable ≡ unreadable (candidateIn j points (v .flat) w′ .distances)) u (ap (λ (v : Measured). v .unreadable) q);
+        few = λ x z. let u : here ≡ x = cc in subst (λ (v : Standing). HasKnots j (v .flat)) u (r .few l y refl);
+        firsts = r .firsts;
+        kept = r .kept;
+      }
+
+  -- from slices that were changed before
+  pub makes-later : {w₀ : List Float} {index₀ : List ℕ} {fit fit₀ : Result} {r : Made} → Makes j points fit w w′ index index′ r → fit₀ ≡ fit → length index ≡ length index₀
+      → Kept (j .flat) (j .fresh + j .table .count) w₀ w → Makes j points fit₀ w₀ w′ index₀ index′ r
+  makes-later {w₀} {index₀} {fit} {fit₀} {r} x e f k =
+      record { answer = e ∙ x .answer; most = x .most; unread = x .unread; few = x .few; firsts = x .firsts ∙ f; kept = kept-then (j .flat) (j .fresh + j .table .count) w₀ w w′ k (x .kept) }
+
+module _ {j : Job} {points w : List Float} {index : List ℕ} (has : HasJob j points w index) where
+  wider : (w′ : List Float) → Kept (j .flat) (j .deviations + j .table .count) w w′ → Kept (j .flat) (j .fresh + j .table .count) w w′
+  wider w′ k = kept-wider (j .flat) (j .deviations + j .table .count) (j .flat) (j .fresh + j .table .count) w w′ (omega arith) (omega (arith, has .deviations-in)) k
+
+  -- ---- through the points
+  pub made-through : {w′ : List Float} {index′ : List ℕ} {y : Measured} → PassesThrough j points w w′ index index′ y
+      → Makes j points (fitBy Interpolate (directionOf j points w)) w w′ index index′ (Stands (record { mark = Interpolated (y .largest); flat = j .table .count + j .table .degree + 1; unreadable = y .unreadable }))
+  unfolding fitBy markedAs largestDeviation directionOf ladder
+  made-through {w′} {index′} {y} x =
+      stands (Interpolated (y .largest)) (j .table .count + j .table .degree + 1) y (ap (λ (f : Candidate). accepted (interpolated f)) (sym (x .fit))) refl
+      (met (most-knots j (has .under)) (x .measures ∙ ap (λ (f : Candidate). measured (f .distances)) (sym (x .fit))) (x .firsts) (wider w′ (x .kept)))
+
+  -- ---- with a chosen pole count
+  module _ {m : ℕ} {w′ : List Float} {index′ : List ℕ} {r : Attempt} (x : AttemptsSpread j points m w w′ index index′ r) where
+    pub chosen-unfitted : r ≡ Unfitted → Makes j points (fitBy (Approximate m) (directionOf j points w)) w w′ index index′ (Fails PoleCountMismatch)
+    unfolding fitBy chosenOr attempted directionOf ladder
+    chosen-unfitted e =
+        fails PoleCountMismatch (ap (chosenOr PoleCountMismatch) (x .answer ∙ ap (λ (a : Attempt). attempted a (candidateIn j points (m + j .table .degree + 1) w′)) e)) (x .firsts) (wider w′ (x .kept))
+
+    pub chosen-fitting : (y : Measured) → r ≡ Fitting y → HasKnots j (m + j .table .degree + 1)
+        → Makes j points (fitBy (Approximate m) (directionOf j points w)) w w′ index index′ (Stands (record { mark = Chosen (y .largest); flat = m + j .table .degree + 1; unreadable = y .unreadable }))
+    unfolding fitBy chosenOr attempted markedAs largestDeviation directionOf ladder
+    chosen-fitting y e h =
+        stands (Chosen (y .largest)) (m + j .table .degree + 1) y
+        (ap (chosenOr PoleCountMismatch) (x .answer ∙ ap (λ (a : Attempt). attempted a (candidateIn j points (m + j .table .degree + 1) w′)) e)) refl
+        (met h (x .measures y e) (x .firsts) (wider w′ (x .kept)))
+
+  -- ---- by the spread search
+  module _ {t : Float} {w₁ : List Float} {index₁ : List ℕ} {r : Reached} (x : SpreadsBelow j points t (j .table .count) w w₁ index index₁ r) where
+    alone-is : fitBy (SearchSpread t) (directionOf j points w) ≡ accepted (spreadIn (j .table .degree) (interpolated (interpolate (directionOf j points w))) r (λ (l : ℕ). candidateIn j points l w₁))
+    unfolding fitBy spreadAlone
+    alone-is =
+        ap (λ (n : ℕ). accepted (fitOnSpreadKnots (directionOf j points w) t n (interpolated (interpolate (directionOf j points w))))) (params-long j points w index has)
+        ∙ ap accepted (x .answer (interpolated (interpolate (directionOf j points w))))
+
+    pub spread-missed : r ≡ Missed → {w′ : List Float} {index′ : List ℕ} {a : Made} → Makes j points (fitBy Interpolate (directionOf j points w₁)) w₁ w′ index₁ index′ a
+        → Makes j points (fitBy (SearchSpread t) (directionOf j points w)) w w′ index index′ a
+    unfolding fitBy spreadIn
+    spread-missed e y =
+        makes-later y
+        (alone-is
+        ∙ ap (λ (b : Reached). accepted (spreadIn (j .table .degree) (interpolated (interpolate (directionOf j points w))) b (λ (l : ℕ). candidateIn j points l w₁))) e
+        ∙ ap (λ (d : Direction). accepted (interpolated (interpolate d))) (sym (direction-kept j points w w₁ (j .fresh + j .table .count) (has .params-in) (x .reaches .kept))))
+        (x .reaches .firsts) (x .reaches .kept)
+
+    pub spread-met : (l : ℕ) (y : Measured) → r ≡ Met l y → Makes j points (fitBy (SearchSpread t) (directionOf j points w)) w w₁ index index₁ (Stands (record { mark = Spread (y .largest); flat = l; unreadable = y .unreadable }))
+    unfolding spreadIn markedAs largestDeviation
+    spread-met l y e =
+        stands (Spread (y .largest)) l y
+        (alone-is ∙ ap (λ (b : Reached). accepted (spreadIn (j .table .degree) (interpolated (interpolate (directionOf j points w))) b (λ (l : ℕ). candidateIn j points l w₁))) e) refl
+        (subst (Reaches j points w w₁ index index₁) e (x .reaches))
+
+  -- ---- by refinement
+  module _ {t : Float} {w₁ : List Float} {index₁ : List ℕ} {r : Reached} (x : RefinesWithin j points t w w₁ index index₁ r) where
+    within-is : fitBy (ApproximateWithin t) (directionOf j points w) ≡ accepted (refinedOr (directionOf j points w) t (refinedIn r (λ (l : ℕ). candidateIn j points l w₁)))
+    unfolding fitBy fitWithin
+    within-is = ap (λ (o : Option Candidate). accepted (refinedOr (directionOf j points w) t o)) (x .answer)
+
+    pub refined-missed : r ≡ Missed → {w′ : List Float} {index′ : List ℕ} {a : Made} → Makes j points (fitBy (SearchSpread t) (directionOf j points w₁)) w₁ w′ index₁ index′ a
+        → Makes j points (fitBy (ApproximateWithin t) (directionOf j points w)) w w′ index index′ a
+    unfolding fitBy refinedIn refinedOr
+    refined-missed e y =
+        makes-later y
+        (within-is
+        ∙ ap (λ (b : Reached). accepted (refinedOr (directionOf j points w) t (refinedIn b (λ (l : ℕ). candidateIn j points l w₁)))) e
+        ∙ ap (λ (d : Direction). accepted (spreadAlone d t)) (sym (direction-kept j points w w₁ (j .fresh + j .table .count) (has .params-in) (x .reaches .kept))))
+        (x .reaches .firsts) (x .reaches .kept)
+
+    pub refined-met : (l : ℕ) (y : Measured) → r ≡ Met l y → Makes j points (fitBy (ApproximateWithin t) (directionOf j points w)) w w₁ index index₁ (Stands (record { mark = Refined (y .largest); flat = l; unreadable = y .unreadable }))
+    unfolding refinedIn refinedOr markedAs largestDeviation
+    refined-met l y e =
+        stands (Refined (y .largest)) l y
+        (within-is ∙ ap (λ (b : Reached). accepted (refinedOr (directionOf j points w) t (refinedIn b (λ (l : ℕ). candidateIn j points l w₁)))) e) refl
+        (subst (Reaches j points w w₁ index index₁) e (x .reaches))

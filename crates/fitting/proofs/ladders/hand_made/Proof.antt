@@ -1,0 +1,100 @@
+-- The fit that stands in the work is the one that is handed out. Assumes nothing.
+use native.Mathlib.Omega.{arith}
+use Rattle.fitting.proofs.RunLaws.{hands-refused, hands-standing}
+use borrow.Author.Needs.{needs}
+use Rattle.fitting.proofs.ladders.hand_made.Statement.{statement}
+use Rattle.fitting.proofs.ladders.hand_made.Tie as tie
+use Rattle.fitting.proofs.making.make.Reads as make-reads
+use Rattle.fitting.proofs.output.hand_out.Reads as hand-out-reads
+
+make-requires : tie.Need-make-requires
+make-requires c κs = search needs
+
+enum-known-c : tie.Need-enum-known-c
+enum-known-c c = search needs
+
+enum-known-x : tie.Need-enum-known-x
+enum-known-x c = search needs
+
+sub-m : tie.Need-sub-m
+sub-m c =
+    let x = c .before .before .x .given in
+    omega (arith, c .before .before .before .before .before .before .before .before .make .ensures .few (x .0 .0) (x .1) .least)
+
+sub-m-2 : tie.Need-sub-m-2
+sub-m-2 c =
+    let x = c .before .before .x .given in
+    omega (arith, c .before .before .before .before .before .before .before .before .make .ensures .few (x .0 .0) (x .1) .least)
+
+hand-out-requires : tie.Need-hand-out-requires
+hand-out-requires c κs =
+    let s = c .before .before .before .before .before .before .before .before .before .before .before .before .before .before .before .before .before .before .before .before .before .before .before in
+    let a = s .args in
+    let x = c .before .before .before .before .before .before .before .x .given in
+    let m = c .before .before .before .before .before .before .before .before .before .before .before .before .before .make .ensures in
+    let k = m .few (x .0 .0) (x .1) in
+    let h = s .pre .0 .0 in
+    let r = s .pre .1 in
+    record {
+      few = omega (arith, k .most, h .few, h .high);
+      poles-in = omega (arith, k .most, h .poles-in, h .deviations-in, h .fresh-in, m .kept .long);
+      flat-in = omega (arith, k .most, h .flat-in, h .values-in, h .band-in, h .poles-in, h .deviations-in, h .fresh-in, m .kept .long);
+      for-poles = omega (arith, k .most, r .for-poles);
+      for-flat = omega (arith, k .least, k .most, r .for-flat);
+      for-knots = omega (arith, k .least, k .most, r .for-knots);
+      for-mults = omega (arith, k .least, k .most, r .for-mults);
+    }
+
+same-length : tie.Need-same-length
+same-length c = search needs
+
+same-length-2 : tie.Need-same-length-2
+same-length-2 c = search needs
+
+returns : tie.Need-returns
+returns c =
+    hands-refused (c .before .before .before .before .before .before .before .make .ensures) (c .before .c .given .0 .0) (c .before .c .given .1)
+
+same-length-3 : tie.Need-same-length-3
+same-length-3 c = search needs
+
+same-length-4 : tie.Need-same-length-4
+same-length-4 c = search needs
+
+same-length-5 : tie.Need-same-length-5
+same-length-5 c = search needs
+
+same-length-6 : tie.Need-same-length-6
+same-length-6 c = search needs
+
+same-length-7 : tie.Need-same-length-7
+same-length-7 c = search needs
+
+same-length-8 : tie.Need-same-length-8
+same-length-8 c = search needs
+
+returns-2 : tie.Need-returns-2
+returns-2 c =
+    let x = c .before .before .before .before .before .before .before .before .before .before .before .before .before .before .before .before .x .given in
+    hands-standing (c .before .before .before .before .before .before .before .before .before .before .before .before .before .before .before .before .before .before .before .before .before .before .make .ensures) (x .0 .0) (x .1) (c .before .before .before .before .before .before .before .before .before .before .before .before .before .before .before .before .before .before .before .before .before .before .before .before .before .before .before .before .before .before .before .before .pre .0 .0) (c .before .before .before .before .before .before .before .before .hand-out .ensures)
+
+pub hand-made-spec : {M : Type 1} → statement M
+hand-made-spec =
+    tie.close
+    (tie.spec
+    make-requires
+    enum-known-c
+    enum-known-x
+    sub-m
+    sub-m-2
+    hand-out-requires
+    same-length
+    same-length-2
+    returns
+    same-length-3
+    same-length-4
+    same-length-5
+    same-length-6
+    same-length-7
+    same-length-8
+    returns-2)

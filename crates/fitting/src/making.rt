@@ -1,0 +1,111 @@
+// What each call makes of a direction whose parameters stand in the work: a refusal, or a fit that then stands in the job's regions.
+ghost use mathlib.Core.Path.{_≡_};
+ghost use Prim.Native.Nat.{_≤_, _<_};
+ghost use Rattle.bspline.specs.declared.Verdict.the-variants.{Pass};
+ghost use Rattle.fitting.specs.declared.Call.the-variants.{Interpolate, Approximate, ApproximateWithin, SearchSpread};
+ghost use Rattle.fitting.specs.Ladders.{countVerdict, fitBy};
+ghost use Rattle.fitting.specs.Jobs.{HasJob, directionOf};
+ghost use Rattle.fitting.specs.Runs.{Makes};
+use crate::Attempt;
+use crate::Call;
+use crate::Job;
+use crate::Made;
+use crate::Mark;
+use crate::Reached;
+use crate::Standing;
+use bspline::Refusal;
+
+// Through the points.
+fn make_through(work: &mut [f64], index: &mut [usize], points: &[f64], job: Job) -> Made
+    requires { ⌜ HasJob job (now points) (now work) (now index) ⌝ }
+    ensures { λ r. ⌜ Makes job (now (points .entry)) (fitBy Interpolate (directionOf job (now (points .entry)) (now (work .entry))))
+        (now (work .entry)) (now (work .exit)) (now (index .entry)) (now (index .exit)) r ⌝ }
+{
+    let m = crate::attempts::pass_through(work, index, points, job);
+    Made::Stands(Standing {
+        mark: Mark::Interpolated(m.largest),
+        flat: job.table.count + job.table.degree + 1,
+        unreadable: m.unreadable,
+    })
+}
+
+// With a chosen pole count; 6 where least squares gives none.
+fn make_chosen(
+    work: &mut [f64],
+    index: &mut [usize],
+    points: &[f64],
+    job: Job,
+    count: usize,
+) -> Made
+    requires { ⌜ HasJob job (now points) (now work) (now index) × (job .table .degree < count) × (count ≤ job .table .count) ⌝ }
+    ensures { λ r. ⌜ Makes job (now (points .entry)) (fitBy (Approximate count) (directionOf job (now (points .entry)) (now (work .entry))))
+        (now (work .entry)) (now (work .exit)) (now (index .entry)) (now (index .exit)) r ⌝ }
+{
+    match crate::attempts::attempt_spread(work, index, points, job, count) {
+        Attempt::Unfitted => Made::Fails(Refusal::PoleCountMismatch),
+        Attempt::Fitting(m) => Made::Stands(Standing {
+            mark: Mark::Chosen(m.largest),
+            flat: count + job.table.degree + 1,
+            unreadable: m.unreadable,
+        }),
+    }
+}
+
+// By the spread search, else through the points.
+fn make_spread(
+    work: &mut [f64],
+    index: &mut [usize],
+    points: &[f64],
+    job: Job,
+    tolerance: f64,
+) -> Made
+    requires { ⌜ HasJob job (now points) (now work) (now index) ⌝ }
+    ensures { λ r. ⌜ Makes job (now (points .entry)) (fitBy (SearchSpread tolerance) (directionOf job (now (points .entry)) (now (work .entry))))
+        (now (work .entry)) (now (work .exit)) (now (index .entry)) (now (index .exit)) r ⌝ }
+{
+    let last = job.table.count;
+    match crate::counts::fit_on_spread_knots(work, index, points, job, tolerance, last) {
+        Reached::Missed => make_through(work, index, points, job),
+        Reached::Met(l, m) => Made::Stands(Standing {
+            mark: Mark::Spread(m.largest),
+            flat: l,
+            unreadable: m.unreadable,
+        }),
+    }
+}
+
+// By refinement, else by the spread search.
+fn make_within(
+    work: &mut [f64],
+    index: &mut [usize],
+    points: &[f64],
+    job: Job,
+    tolerance: f64,
+) -> Made
+    requires { ⌜ HasJob job (now points) (now work) (now index) ⌝ }
+    ensures { λ r. ⌜ Makes job (now (points .entry)) (fitBy (ApproximateWithin tolerance) (directionOf job (now (points .entry)) (now (work .entry))))
+        (now (work .entry)) (now (work .exit)) (now (index .entry)) (now (index .exit)) r ⌝ }
+{
+    match crate::refining::refine_within(work, index, points, job, tolerance) {
+        Reached::Missed => make_spread(work, index, points, job, tolerance),
+        Reached::Met(l, m) => Made::Stands(Standing {
+            mark: Mark::Refined(m.largest),
+            flat: l,
+            unreadable: m.unreadable,
+        }),
+    }
+}
+
+// By what the call asks for.
+pub fn make(work: &mut [f64], index: &mut [usize], points: &[f64], job: Job, call: Call) -> Made
+    requires { ⌜ HasJob job (now points) (now work) (now index) × (countVerdict call (job .table .count) (job .table .degree) ≡ Pass) ⌝ }
+    ensures { λ r. ⌜ Makes job (now (points .entry)) (fitBy call (directionOf job (now (points .entry)) (now (work .entry))))
+        (now (work .entry)) (now (work .exit)) (now (index .entry)) (now (index .exit)) r ⌝ }
+{
+    match call {
+        Call::Interpolate => make_through(work, index, points, job),
+        Call::Approximate(count) => make_chosen(work, index, points, job, count),
+        Call::ApproximateWithin(tolerance) => make_within(work, index, points, job, tolerance),
+        Call::SearchSpread(tolerance) => make_spread(work, index, points, job, tolerance),
+    }
+}

@@ -1,0 +1,2 @@
+-- The laws of what is told to C.
+pub mod ToldLaws

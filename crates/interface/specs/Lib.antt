@@ -1,0 +1,2 @@
+-- What a call for C hands back.
+pub mod Told

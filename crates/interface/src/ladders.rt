@@ -1,0 +1,276 @@
+// The ladder calls.
+ghost use mathlib.Core.Path.{_≡_};
+ghost use Prim.Native.Nat.{_≤_};
+ghost use lib.ListN.{length};
+ghost use Rattle.fitting.specs.declared.Call.the-variants.{Interpolate, Approximate, ApproximateWithin, SearchSpread};
+ghost use Rattle.fitting.specs.Marks.{largestDeviation};
+ghost use Rattle.fitting.specs.Ladders.{lent, answerNumber, resultNumber, resultOf};
+ghost use Rattle.interface.specs.Told.{spacingOf, markNumber, toldLargest, toldCounts, nothing, Told};
+use bspline::Verdict;
+use fitting::Answer;
+use fitting::Call;
+use fitting::Mark;
+use fitting::Room;
+use knots::Spacing;
+
+fn spacing_of(number: usize) -> Spacing
+    ensures { λ r. ⌜ r ≡ spacingOf number ⌝ }
+{
+    if number == 0 {
+        return Spacing::Chordal;
+    }
+    Spacing::Centripetal
+}
+
+fn mark_number(mark: Mark) -> usize
+    ensures { λ r. ⌜ r ≡ markNumber mark ⌝ }
+{
+    match mark {
+        Mark::Refined(_) => 1,
+        Mark::Spread(_) => 2,
+        Mark::Interpolated(_) => 3,
+        Mark::Chosen(_) => 4,
+    }
+}
+
+fn largest_deviation(mark: Mark) -> f64
+    ensures { λ r. ⌜ r ≡ largestDeviation mark ⌝ }
+{
+    match mark {
+        Mark::Refined(x) => x,
+        Mark::Spread(x) => x,
+        Mark::Interpolated(x) => x,
+        Mark::Chosen(x) => x,
+    }
+}
+
+// The number of an answer, with the mark and the counts of a fit in the lent slices.
+fn tell(answer: Answer, largest: &mut [f64], counts: &mut [usize]) -> u32
+    requires { ⌜ (1 ≤ length (now largest)) × (4 ≤ length (now counts)) ⌝ }
+    ensures { λ r. ⌜ r ≡ answerNumber answer ⌝ }
+    ensures { λ _. ⌜ now (largest .exit) ≡ toldLargest answer (now (largest .entry)) ⌝ }
+    ensures { λ _. ⌜ now (counts .exit) ≡ toldCounts answer (now (counts .entry)) ⌝ }
+{
+    match answer {
+        Answer::Refused(c) => c.number(),
+        Answer::Fitted(f) => {
+            let mark = f.mark;
+            largest[0] = largest_deviation(mark);
+            counts[0] = mark_number(mark);
+            counts[1] = f.poles;
+            counts[2] = f.knots;
+            counts[3] = f.unreadable;
+            0
+        }
+    }
+}
+
+// The number of a call that has no room for its answer.
+fn without_room(points: &[f64], degree: usize, spacing: Spacing, call: Call) -> u32
+    ensures { λ r. ⌜ r ≡ resultNumber (resultOf call (now (points .entry)) degree spacing nothing) ⌝ }
+{
+    let room = Room {
+        poles: 0,
+        flat: 0,
+        knots: 0,
+        mults: 0,
+        work: 0,
+        index: 0,
+    };
+    let counts = fitting::checks::check_count(call, points.len() / 3, degree);
+    match fitting::checks::check_ladder(points, degree, counts, room) {
+        Verdict::Stop(c) => c.number(),
+        Verdict::Pass => 9,
+    }
+}
+
+fn call_ladder(
+    points: &[f64],
+    degree: usize,
+    spacing: Spacing,
+    call: Call,
+    poles: &mut [f64],
+    flat: &mut [f64],
+    knots: &mut [f64],
+    mults: &mut [u32],
+    work: &mut [f64],
+    index: &mut [usize],
+    largest: &mut [f64],
+    counts: &mut [usize],
+) -> u32
+    ensures { λ r. ⌜ Told call (now (points .entry)) degree spacing
+        (lent (now (poles .entry)) (now (flat .entry)) (now (knots .entry)) (now (mults .entry)) (now (work .entry)) (now (index .entry)))
+        (lent (now (poles .exit)) (now (flat .exit)) (now (knots .exit)) (now (mults .exit)) (now (work .exit)) (now (index .exit)))
+        (now (largest .entry)) (now (largest .exit)) (now (counts .entry)) (now (counts .exit)) r ⌝ }
+{
+    if largest.len() < 1 {
+        return without_room(points, degree, spacing, call);
+    }
+    if counts.len() < 4 {
+        return without_room(points, degree, spacing, call);
+    }
+    let answer = fitting::ladders::fit_ladder(
+        points,
+        degree,
+        spacing,
+        call,
+        poles,
+        flat,
+        knots,
+        mults,
+        work,
+        index,
+    );
+    tell(answer, largest, counts)
+}
+
+// The curve through the points, with as many poles.
+#[no_mangle]
+pub extern "C" fn nigorzai_interpolate(
+    points: &[f64],
+    degree: usize,
+    spacing: usize,
+    poles: &mut [f64],
+    flat: &mut [f64],
+    knots: &mut [f64],
+    mults: &mut [u32],
+    work: &mut [f64],
+    index: &mut [usize],
+    largest: &mut [f64],
+    counts: &mut [usize],
+) -> u32
+    ensures { λ r. ⌜ Told Interpolate (now (points .entry)) degree (spacingOf spacing)
+        (lent (now (poles .entry)) (now (flat .entry)) (now (knots .entry)) (now (mults .entry)) (now (work .entry)) (now (index .entry)))
+        (lent (now (poles .exit)) (now (flat .exit)) (now (knots .exit)) (now (mults .exit)) (now (work .exit)) (now (index .exit)))
+        (now (largest .entry)) (now (largest .exit)) (now (counts .entry)) (now (counts .exit)) r ⌝ }
+{
+    let call = Call::Interpolate;
+    call_ladder(
+        points,
+        degree,
+        spacing_of(spacing),
+        call,
+        poles,
+        flat,
+        knots,
+        mults,
+        work,
+        index,
+        largest,
+        counts,
+    )
+}
+
+// Least squares with a chosen pole count.
+#[no_mangle]
+pub extern "C" fn nigorzai_approximate(
+    points: &[f64],
+    degree: usize,
+    count: usize,
+    spacing: usize,
+    poles: &mut [f64],
+    flat: &mut [f64],
+    knots: &mut [f64],
+    mults: &mut [u32],
+    work: &mut [f64],
+    index: &mut [usize],
+    largest: &mut [f64],
+    counts: &mut [usize],
+) -> u32
+    ensures { λ r. ⌜ Told (Approximate count) (now (points .entry)) degree (spacingOf spacing)
+        (lent (now (poles .entry)) (now (flat .entry)) (now (knots .entry)) (now (mults .entry)) (now (work .entry)) (now (index .entry)))
+        (lent (now (poles .exit)) (now (flat .exit)) (now (knots .exit)) (now (mults .exit)) (now (work .exit)) (now (index .exit)))
+        (now (largest .entry)) (now (largest .exit)) (now (counts .entry)) (now (counts .exit)) r ⌝ }
+{
+    let call = Call::Approximate(count);
+    call_ladder(
+        points,
+        degree,
+        spacing_of(spacing),
+        call,
+        poles,
+        flat,
+        knots,
+        mults,
+        work,
+        index,
+        largest,
+        counts,
+    )
+}
+
+// Within a tolerance: by refinement, else by the spread search, else through the points.
+#[no_mangle]
+pub extern "C" fn nigorzai_approximate_within(
+    points: &[f64],
+    degree: usize,
+    tolerance: f64,
+    spacing: usize,
+    poles: &mut [f64],
+    flat: &mut [f64],
+    knots: &mut [f64],
+    mults: &mut [u32],
+    work: &mut [f64],
+    index: &mut [usize],
+    largest: &mut [f64],
+    counts: &mut [usize],
+) -> u32
+    ensures { λ r. ⌜ Told (ApproximateWithin tolerance) (now (points .entry)) degree (spacingOf spacing)
+        (lent (now (poles .entry)) (now (flat .entry)) (now (knots .entry)) (now (mults .entry)) (now (work .entry)) (now (index .entry)))
+        (lent (now (poles .exit)) (now (flat .exit)) (now (knots .exit)) (now (mults .exit)) (now (work .exit)) (now (index .exit)))
+        (now (largest .entry)) (now (largest .exit)) (now (counts .entry)) (now (counts .exit)) r ⌝ }
+{
+    let call = Call::ApproximateWithin(tolerance);
+    call_ladder(
+        points,
+        degree,
+        spacing_of(spacing),
+        call,
+        poles,
+        flat,
+        knots,
+        mults,
+        work,
+        index,
+        largest,
+        counts,
+    )
+}
+
+// The spread search alone, else through the points.
+#[no_mangle]
+pub extern "C" fn nigorzai_search_spread(
+    points: &[f64],
+    degree: usize,
+    tolerance: f64,
+    spacing: usize,
+    poles: &mut [f64],
+    flat: &mut [f64],
+    knots: &mut [f64],
+    mults: &mut [u32],
+    work: &mut [f64],
+    index: &mut [usize],
+    largest: &mut [f64],
+    counts: &mut [usize],
+) -> u32
+    ensures { λ r. ⌜ Told (SearchSpread tolerance) (now (points .entry)) degree (spacingOf spacing)
+        (lent (now (poles .entry)) (now (flat .entry)) (now (knots .entry)) (now (mults .entry)) (now (work .entry)) (now (index .entry)))
+        (lent (now (poles .exit)) (now (flat .exit)) (now (knots .exit)) (now (mults .exit)) (now (work .exit)) (now (index .exit)))
+        (now (largest .entry)) (now (largest .exit)) (now (counts .entry)) (now (counts .exit)) r ⌝ }
+{
+    let call = Call::SearchSpread(tolerance);
+    call_ladder(
+        points,
+        degree,
+        spacing_of(spacing),
+        call,
+        poles,
+        flat,
+        knots,
+        mults,
+        work,
+        index,
+        largest,
+        counts,
+    )
+}
