@@ -5,7 +5,7 @@ unsafe extern "C" {
     safe fn pieces_sqrt(x: f64) -> f64;
     safe fn pieces_whole_part(x: f64) -> usize;
     fn pieces_sort(list: *mut f64, n: usize);
-    fn pieces_read(
+    fn nigorzai_read(
         poles: *const f64, poles_len: usize, degree: usize, knots: *const f64, knots_len: usize, mults: *const u32, mults_len: usize, u: f64,
         out: *mut f64, out_len: usize,
     ) -> u32;
@@ -86,7 +86,7 @@ pub fn sort(list: &mut [f64]) {
 pub fn read(poles: &[f64], degree: usize, knots: &[f64], mults: &[u32], u: f64, out: &mut [f64]) -> u32 {
     assert!(out.len() >= 3);
     unsafe {
-        pieces_read(
+        nigorzai_read(
             poles.as_ptr(), poles.len(), degree, knots.as_ptr(), knots.len(), mults.as_ptr(), mults.len(), u, out.as_mut_ptr(), out.len(),
         )
     }

@@ -1,7 +1,7 @@
 -- What a ladder that passes the checks has. Assumes nothing.
-use mathlib.Core.Path.{_≡_, refl, sym, _∙_}
+use mathlib.Core.Path.{_≡_}
 use mathlib.Core.List.{List}
-use Prim.Native.Nat.{ℕ, _+_, _-_, _*_, _/_, _<_, _≤_}
+use Prim.Native.Nat.{ℕ, _-_, _*_, _<_, _≤_}
 use native.Mathlib.Nat.{mul-le-mul}
 use native.Mathlib.Omega.{arith}
 use lib.ListN.{length}
@@ -11,7 +11,7 @@ use Rattle.places.proofs.PlaceLaws.{or-false}
 use Rattle.bspline.specs.declared.Refusal.{Refusal}
 use Rattle.bspline.specs.declared.Verdict.{Verdict}
 use Rattle.bspline.specs.declared.Verdict.the-variants.{Pass, Stop}
-use Rattle.bspline.specs.Refusals.{stop-if, _next_}
+use Rattle.bspline.specs.Refusals.{_next_}
 use Rattle.bspline.proofs.CheckLaws.{both-pass, test-fails}
 use Rattle.fitting.specs.declared.Room.{Room}
 use Rattle.fitting.specs.declared.Call.{Call}

@@ -1,14 +1,13 @@
 -- Deviations held to a tolerance, for every float: what each test says of the single deviations, and that a larger tolerance passes what a
 -- smaller one passed. Assumes nothing.
-use mathlib.Core.Path.{_≡_, refl, sym, subst, _∙_, ap}
-use mathlib.Core.Bool.{Bool, true, false, cond, _&&_}
+use mathlib.Core.Path.{_≡_, refl}
+use mathlib.Core.Bool.{true, _&&_}
 use mathlib.Core.List.{List, [], _∷_}
-use Prim.Native.Nat.{ℕ, zero, suc, _<_}
+use Prim.Native.Nat.{zero, suc}
 use native.Mathlib.Nat.{le-of-suc-le-suc, not-suc-le-zero}
 use native.Mathlib.Omega.{arith}
-use lib.ListN.{length}
 use lib.Dec.{T}
-use lib.Ieee.{Float, lt, le}
+use lib.Ieee.{Float, le}
 use lib.Ieee.Fits.{and-l, and-r}
 use Rattle.geometry.specs.Doubles.{nought, largest}
 use Rattle.geometry.proofs.FloatOrder.{holds, test, le-transitive, not-above}

@@ -6,23 +6,22 @@ use mathlib.Core.Option.{Option, none, some}
 use Prim.Native.Nat.{ℕ, zero, suc, _+_, _-_, _*_, _<_, _≤_}
 use native.Mathlib.Omega.{arith}
 use lib.Dec.{eqb, leb, ltb}
-use lib.ListN.{length, getD, set, take, drop, replicate, length-set, length-append, length-replicate}
+use lib.ListN.{length, take, drop, length-append}
 use lib.Seq.{ext-getD}
 use lib.Ieee.{Float, nan}
 use borrow.Author.Tests.{leb-false}
-use Rattle.places.specs.Loops.{each, down, Outcome, outcome}
+use Rattle.places.specs.Loops.{Outcome, outcome}
 use Rattle.places.specs.Places.{listOf, joined, laid, allBelow}
 use Rattle.places.specs.Regions.{part}
-use Rattle.places.proofs.RegionLaws.{length-each, length-part}
+use Rattle.places.proofs.RegionLaws.{length-part}
 use Rattle.places.proofs.PlaceLaws.{length-listOf, listOf-at, length-joined, part-laid, laid-copy}
 use Rattle.geometry.specs.declared.Point.{Point}
 use Rattle.geometry.specs.Doubles.{at, largest, isFinite}
 use Rattle.geometry.specs.Order.{rankOf, inserted, sortedOnto, sorted}
-use Rattle.geometry.specs.Points.{putPoint}
-use Rattle.bands.specs.Cholesky.{forwardRow, backRow, substituteSymmetricBand}
-use Rattle.knots.specs.Knots.{clampedKnots, bezierKnots, approximationKnots}
-use Rattle.tables.specs.BasisTable.{BasisTable, parameterCount}
-use Rattle.tables.specs.LeastSquares.{addDatum, rightHand, solvedLines, leastSquares}
+use Rattle.bands.specs.Cholesky.{substituteSymmetricBand}
+use Rattle.knots.specs.Knots.{bezierKnots, approximationKnots}
+use Rattle.tables.specs.BasisTable.{BasisTable}
+use Rattle.tables.specs.LeastSquares.{rightHand, solvedLines, leastSquares}
 use Rattle.tables.specs.Deviations.{largestWithin}
 use Rattle.tables.specs.Directions.{Direction}
 use Rattle.tables.proofs.SquareLaws.{length-right, length-substituted}

@@ -1,11 +1,10 @@
 -- Demand 3 of what a ladder call hands out follows from the rest of its contract, whatever the program. Assumes nothing.
 use mathlib.Core.Path.{_≡_, refl, sym, _∙_, ap, subst}
-use mathlib.Core.Bool.{Bool, true, false, cond, _||_}
-use mathlib.Core.List.{List, []}
+use mathlib.Core.Bool.{Bool, true, false, cond}
+use mathlib.Core.List.{List}
 use mathlib.Core.Option.{Option, none, some}
-use Prim.Native.Nat.{ℕ, zero, suc, _+_, _-_, _*_, _/_, _<_, _≤_}
+use Prim.Native.Nat.{ℕ, _+_, _-_, _*_, _≤_}
 use native.Mathlib.Omega.{arith}
-use lib.Dec.{ltb, leb, eqb}
 use lib.ListN.{length, take}
 use lib.Ieee.{Float, le}
 use Rattle.places.specs.Places.{laid, someBelow}
@@ -23,7 +22,7 @@ use Rattle.tables.specs.BasisTable.{basisTable}
 use Rattle.tables.specs.Deviations.{ladderDistances}
 use Rattle.tables.specs.Directions.{Direction, ladder}
 use Rattle.fitting.specs.declared.Mark.{Mark}
-use Rattle.fitting.specs.declared.Mark.the-variants.{Refined, Spread, Interpolated, Chosen}
+use Rattle.fitting.specs.declared.Mark.the-variants.{Refined, Spread, Interpolated}
 use Rattle.fitting.specs.declared.Fit.{Fit}
 use Rattle.fitting.specs.declared.Answer.{Answer}
 use Rattle.fitting.specs.declared.Answer.the-variants.{Fitted, Refused}
@@ -33,9 +32,9 @@ use Rattle.fitting.specs.Tolerance.{NoneAbove, Fails, KeepsTolerance}
 use Rattle.fitting.proofs.CheckLaws.{checks-give, count-under}
 use Rattle.fitting.specs.declared.Call.{Call}
 use Rattle.fitting.specs.declared.Call.the-variants.{ApproximateWithin, SearchSpread}
-use Rattle.fitting.specs.Ladders.{Lent, Result, refused, accepted, pointCount, countVerdict, ladderChecks, roomOf, Roomy, fitBy, ladderFit, fitWith, checked, resultOf, answerOf, handed, handedFlat, handedPoles, ladderOf, paramsOr, handedDistances, LadderCall, LadderKept, ApproximatesWithin, SearchesSpread, SpreadNeverMorePoles}
-use Rattle.fitting.proofs.ToleranceLaws.{Lawful, ladder-lawful, search-cases, IsSpread, spread-flat, poles-spread, alone-kept, within-kept, polesOf, no-more, spread-again}
-use Rattle.fitting.proofs.HandedLaws.{IsFit, Sized, From, taken, spread-from, refined-from}
+use Rattle.fitting.specs.Ladders.{Lent, Result, accepted, pointCount, countVerdict, ladderChecks, roomOf, Roomy, fitBy, ladderFit, fitWith, checked, resultOf, answerOf, handed, handedFlat, handedPoles, ladderOf, paramsOr, LadderCall, LadderKept, ApproximatesWithin, SearchesSpread, SpreadNeverMorePoles}
+use Rattle.fitting.proofs.ToleranceLaws.{Lawful, ladder-lawful, search-cases, spread-flat, poles-spread, alone-kept, within-kept, polesOf, no-more, spread-again}
+use Rattle.fitting.proofs.HandedLaws.{From, taken, spread-from, refined-from}
 
 -- as many parameters as points
 pub params-long : (v : Spacing) (n : ℕ) (point : ℕ → Point) (params : List Float) → pointParameters v n point ≡ some params → length params ≡ n

@@ -26,12 +26,12 @@ use Rattle.fitting.specs.declared.Call.the-variants.{Interpolate, Approx
 use Rattle.fitting.specs.declared.Standing.{Standing}
 use Rattle.fitting.specs.declared.Made.{Made}
 use Rattle.fitting.specs.declared.Made.the-variants.{Fails, Stands}
-use Rattle.fitting.specs.Within.{Candidate, Marked, interpolated, interpolate, fitOnSpread, fitOnSpreadKnots, spreadAlone, refinedOr, fitWithin}
+use Rattle.fitting.specs.Within.{Candidate, interpolated, interpolate, fitOnSpreadKnots, spreadAlone, refinedOr, fitWithin}
 use Rattle.fitting.specs.Marks.{largestDeviation}
 use Rattle.fitting.specs.Ladders.{Result, refused, accepted, chosenOr, fitBy}
 use Rattle.fitting.specs.Jobs.{HasJob, HasKnots, directionOf, candidateIn, attempted, refinedIn, spreadIn, AttemptsSpread, PassesThrough, Reaches, RefinesWithin, SpreadsBelow}
 use Rattle.fitting.specs.Runs.{markedAs, standingIn, madeIn, Makes}
-use Rattle.fitting.proofs.AttemptLaws.{most-knots, spread-knots, params-long, met, direction-kept}
+use Rattle.fitting.proofs.AttemptLaws.{most-knots, params-long, met, direction-kept}
 
 module _ {j : Job} {points w w′ : List Float} {index index′ : List ℕ} where
   pub fails : {fit : Result} (c : Refusal) → fit ≡ refused c → length index′ ≡ length index → Kept (j .flat) (j .fresh + j .table .count) w w′ → Makes j points fit w w′ index index′ (Fails c)

@@ -13,7 +13,7 @@ use Rattle.geometry.specs.Doubles.{largest}
 use Rattle.places.proofs.PlaceLaws.{length-listOf}
 use Rattle.knots.specs.Knots.{clampedKnots, bezierKnots, averagedKnot, averagedKnots, spreadKnot, approximationKnots}
 use Rattle.tables.specs.BasisTable.{BasisTable}
-use Rattle.tables.specs.Deviations.{allWithin, largestWithin}
+use Rattle.tables.specs.Deviations.{largestWithin}
 use Rattle.tables.specs.Directions.{Direction, ladder, gridRows, gridColumns}
 use Rattle.search.specs.declared.Found.{Found}
 use Rattle.search.specs.declared.Found.the-variants.{At, Nothing}

@@ -5,8 +5,6 @@ use Prim.Native.Nat.{ℕ, _+_, _-_, _*_}
 use lib.ListN.{length}
 use lib.Ieee.{Float}
 use Rattle.geometry.specs.Doubles.{largest}
-use Rattle.tables.specs.declared.Table.{Table}
-use Rattle.tables.specs.declared.Data.{Data}
 use Rattle.tables.specs.Layout.{Kept}
 use Rattle.tables.specs.Deviations.{unreadable}
 use Rattle.fitting.specs.declared.Job.{Job}

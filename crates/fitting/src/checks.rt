@@ -39,7 +39,7 @@ fn one_less(n: usize) -> usize
 }
 
 // 3 and 4 where a pole count is chosen: 0 poles count as 1.
-fn check_chosen(n: usize, degree: usize, count: usize) -> Verdict
+pub fn check_chosen(n: usize, degree: usize, count: usize) -> Verdict
     ensures { λ r. ⌜ r ≡ chosenVerdict n degree count ⌝ }
 {
     if one_less(count) < degree {
@@ -52,7 +52,7 @@ fn check_chosen(n: usize, degree: usize, count: usize) -> Verdict
 }
 
 // 3 where none is.
-fn check_unchosen(n: usize, degree: usize) -> Verdict
+pub fn check_unchosen(n: usize, degree: usize) -> Verdict
     ensures { λ r. ⌜ r ≡ unchosenVerdict n degree ⌝ }
 {
     if one_less(n) < degree {
@@ -113,7 +113,7 @@ fn is_outside(x: f64) -> bool
 }
 
 // 10.
-fn check_coordinates(points: &[f64]) -> Verdict
+pub fn check_coordinates(points: &[f64]) -> Verdict
     ensures { λ r. ⌜ r ≡ coordinatesVerdict (now (points .entry)) ⌝ }
 {
     for k in 0..points.len() {

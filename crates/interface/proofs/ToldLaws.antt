@@ -2,7 +2,7 @@
 use mathlib.Core.Path.{_≡_, refl, sym, ap, _∙_, subst}
 use mathlib.Core.Bool.{Bool, true, false, cond, not, _&&_}
 use mathlib.Core.List.{List}
-use Prim.Native.Nat.{ℕ, _*_, _<_, _≤_}
+use Prim.Native.Nat.{ℕ, _<_, _≤_}
 use native.Mathlib.Omega.{arith}
 use lib.Dec.{ltb}
 use lib.ListN.{length}
@@ -15,10 +15,9 @@ use Rattle.bspline.specs.declared.Verdict.the-variants.{Pass, Stop}
 use Rattle.knots.specs.declared.Spacing.{Spacing}
 use Rattle.fitting.specs.declared.Call.{Call}
 use Rattle.fitting.specs.declared.Answer.{Answer}
-use Rattle.fitting.specs.declared.Answer.the-variants.{Refused}
 use Rattle.fitting.specs.Ladders.{Lent, Result, refused, fitBy, ladderFit, checked, resultOf, resultNumber, answerOf, answerNumber, ladderChecks, handed, handedPoles, handedFlat, handedKnots, handedMults, cleared, LadderCall}
 use Rattle.fitting.proofs.CheckLaws.{checks-give}
-use Rattle.interface.specs.Told.{tellable, nothing, judged, toldLargest, toldCounts, ToldBy, Told}
+use Rattle.interface.specs.Told.{tellable, nothing, toldLargest, toldCounts, ToldBy, Told}
 
 -- the room that the slices have
 pub few-largest : (largest : List Float) (counts : List ℕ) → length largest < 1 → tellable largest counts ≡ false

@@ -1,22 +1,25 @@
--- A ladder call as C sees it: the number, and the mark and the counts in lent slices. Definitions only.
+-- The calls as C sees them: the number; of a ladder the mark and the counts, of a reading the point, in lent slices. Definitions only.
 use mathlib.Core.Path.{_≡_}
-use mathlib.Core.Bool.{Bool, true, false, cond, not, _&&_}
+use mathlib.Core.Bool.{Bool, cond, not, _&&_}
 use mathlib.Core.List.{List, []}
 use Prim.Native.Nat.{ℕ}
 use lib.Dec.{eqb, ltb}
 use lib.ListN.{length, set}
 use lib.Ieee.{Float}
 use Rattle.geometry.specs.Doubles.{nought}
+use Rattle.geometry.specs.Points.{putPoint}
+use Rattle.bspline.specs.declared.Reading.{Reading}
+use Rattle.bspline.specs.declared.Reading.the-variants.{Read, Refused as Unread}
+use Rattle.bspline.specs.Reader.{readingNumber}
 use Rattle.knots.specs.declared.Spacing.{Spacing}
 use Rattle.knots.specs.declared.Spacing.the-variants.{Chordal, Centripetal}
 use Rattle.fitting.specs.declared.Mark.{Mark}
 use Rattle.fitting.specs.declared.Mark.the-variants.{Refined, Spread, Interpolated, Chosen}
-use Rattle.fitting.specs.declared.Fit.{Fit}
 use Rattle.fitting.specs.declared.Call.{Call}
 use Rattle.fitting.specs.declared.Answer.{Answer}
 use Rattle.fitting.specs.declared.Answer.the-variants.{Fitted, Refused}
 use Rattle.fitting.specs.Marks.{largestDeviation}
-use Rattle.fitting.specs.Ladders.{Lent, lent, Result, resultOf, resultNumber, answerOf, ladderChecks, cleared, HandsOut}
+use Rattle.fitting.specs.Ladders.{Lent, lent, resultOf, resultNumber, answerOf, ladderChecks, cleared, HandsOut}
 
 -- 0 is chordal, any other number centripetal
 abbrev pub spacingOf : ℕ → Spacing
@@ -61,3 +64,17 @@ pub record ToldBy (m : Lent) (call : Call) (s : List Float) (degree : ℕ) (v : 
 -- The contract of a ladder call for C.
 pub record Told (call : Call) (s : List Float) (degree : ℕ) (v : Spacing) (l l′ : Lent) (largest largest′ : List Float) (counts counts′ : List ℕ) (r : ℕ) : Type 0 where
   pub told-by : ToldBy (judged l largest counts) call s degree v l l′ largest largest′ counts counts′ r
+
+-- ---- the reader
+
+-- a reading's number, and 9 where the slice for the point is too short
+abbrev pub toldReading : List Float → Reading → ℕ
+toldReading out r = cond (ltb (length out) 3) 9 (readingNumber r)
+
+-- its point in the first three places
+abbrev pub pointIn : List Float → Reading → List Float
+pointIn out (Read q) = putPoint 0 q out
+pointIn out (Unread c) = out
+
+abbrev pub toldPoint : List Float → Reading → List Float
+toldPoint out r = cond (ltb (length out) 3) out (pointIn out r)

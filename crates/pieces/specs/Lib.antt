@@ -1,4 +1,3 @@
--- What a reading leaves in a lent point, the number of a spacing, and layouts by their numbers.
-pub mod Readings
+-- The number of a spacing, and layouts by their numbers.
 pub mod Spacings
 pub mod Fits

@@ -7,7 +7,7 @@ ghost use Rattle.geometry.specs.Doubles.{wholePart};
 ghost use Rattle.geometry.specs.Order.{sorted};
 ghost use Rattle.geometry.specs.Points.{putPoint};
 ghost use Rattle.bspline.specs.Spans.{NeverFalls};
-ghost use Rattle.bspline.specs.Reader.{readerVerdict, readingOf, readingNumber, curvePoint, flatKnots};
+ghost use Rattle.bspline.specs.Reader.{curvePoint};
 ghost use Rattle.places.specs.Regions.{part, splice};
 ghost use Rattle.places.specs.Loops.{outcome};
 ghost use Rattle.bands.specs.Cholesky.{factorSymmetricBand, substituteSymmetricBand};
@@ -17,12 +17,10 @@ ghost use Rattle.knots.specs.Parameters.{pointParameters, sharedParameters};
 ghost use Rattle.knots.specs.Knots.{averagedKnots, approximationKnots};
 ghost use Rattle.knots.specs.Lines.{lineOf, linesOf};
 ghost use Rattle.knots.specs.Calls.{HasLine, HasLines, Found, KnotRegions, HasRoom, Compressed};
-ghost use Rattle.pieces.specs.Readings.{putReading};
 ghost use Rattle.pieces.specs.Spacings.{spacingOf};
 
 pub mod fits;
 
-use bspline::Reading;
 use knots::Spacing;
 
 #[no_mangle]
@@ -44,31 +42,6 @@ pub extern "C" fn pieces_sort(list: &mut [f64])
     ensures { λ _. ⌜ now (list .exit) ≡ sorted (now (list .entry)) ⌝ }
 {
     geometry::order::sort(list);
-}
-
-// The number of the refusal, or 0 with the point in the first three places of `out`.
-#[no_mangle]
-pub extern "C" fn pieces_read(
-    poles: &[f64],
-    degree: usize,
-    knots: &[f64],
-    mults: &[u32],
-    u: f64,
-    out: &mut [f64],
-) -> u32
-    requires { ⌜ 3 ≤ length (now out) ⌝ }
-    ensures { λ r. ⌜ r ≡ readingNumber (readingOf (readerVerdict (now (poles .entry)) degree (now (knots .entry)) (now (mults .entry)) u)
-        (curvePoint (flatKnots (now (knots .entry)) (now (mults .entry))) degree (now (poles .entry)) u)) ⌝ }
-    ensures { λ _. ⌜ now (out .exit) ≡ putReading (readingOf (readerVerdict (now (poles .entry)) degree (now (knots .entry)) (now (mults .entry)) u)
-        (curvePoint (flatKnots (now (knots .entry)) (now (mults .entry))) degree (now (poles .entry)) u)) (now (out .entry)) ⌝ }
-{
-    match bspline::reader::read(poles, degree, knots, mults, u) {
-        Reading::Refused(c) => c.number(),
-        Reading::Read(q) => {
-            geometry::put_point(out, 0, q);
-            0
-        }
-    }
 }
 
 // A reading of a curve whose parts are known to pass the reader's checks, by its flat knots.

@@ -1,5 +1,4 @@
 -- The definition, test by test. Assumes nothing.
-use mathlib.Core.Path.{_≡_, refl, sym, ap, _∙_}
 use Prim.Native.Nat.{_-_}
 use borrow.Author.Tests.{lt-ltb, le-ltb}
 use Rattle.bspline.specs.Refusals.{stop-if, _next_}

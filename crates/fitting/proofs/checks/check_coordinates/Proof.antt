@@ -1,7 +1,7 @@
 -- The invariant: none of the first k coordinates is outside. Assumes nothing.
-use mathlib.Core.Path.{_≡_, refl, sym, ap, _∙_}
+use mathlib.Core.Path.{_≡_, sym, _∙_}
 use mathlib.Core.Bool.{false}
-use Prim.Native.Nat.{ℕ, _-_, _≤_}
+use Prim.Native.Nat.{_-_, _≤_}
 use lib.ListN.{length}
 use Rattle.places.specs.Places.{someBelow}
 use Rattle.places.proofs.PlaceLaws.{some-none, some-here, some-next}

@@ -1,5 +1,5 @@
 -- The first that stops counts, and what passes the shape's checks is small enough for those after it. Assumes nothing.
-use mathlib.Core.Path.{_≡_, sym, _∙_}
+use mathlib.Core.Path.{sym, _∙_}
 use Rattle.fitting.proofs.CheckLaws.{next-stop, next-pass, shape-pass}
 use borrow.Author.Needs.{needs}
 use Rattle.fitting.proofs.checks.check_ladder.Statement.{statement}

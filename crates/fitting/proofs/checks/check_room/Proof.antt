@@ -1,6 +1,5 @@
 -- The definition, test by test; the numbers are small, so nothing wraps. Assumes nothing.
-use mathlib.Core.Path.{_≡_, refl, sym, ap, _∙_}
-use borrow.Author.Tests.{lt-ltb, le-ltb, eq-eqb, ne-eqb}
+use borrow.Author.Tests.{lt-ltb, le-ltb}
 use Rattle.bspline.specs.Refusals.{stop-if, _next_}
 use Rattle.fitting.specs.Ladders.{roomVerdict}
 use Rattle.fitting.proofs.CheckLaws.{small}

@@ -1,5 +1,4 @@
 -- The definition, test by test. Assumes nothing.
-use mathlib.Core.Path.{_≡_, refl, sym, ap, _∙_}
 use borrow.Author.Tests.{lt-ltb, le-ltb, eq-eqb, ne-eqb}
 use Rattle.bspline.specs.Refusals.{stop-if, _next_}
 use Rattle.fitting.specs.Ladders.{shapeVerdict}

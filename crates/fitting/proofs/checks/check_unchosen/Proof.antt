@@ -1,8 +1,7 @@
 -- The definition, test by test. Assumes nothing.
-use mathlib.Core.Path.{_≡_, refl, sym, ap, _∙_}
 use Prim.Native.Nat.{_-_}
 use borrow.Author.Tests.{lt-ltb, le-ltb}
-use Rattle.bspline.specs.Refusals.{stop-if, _next_}
+use Rattle.bspline.specs.Refusals.{stop-if}
 use Rattle.fitting.specs.Ladders.{unchosenVerdict}
 use borrow.Author.Needs.{needs}
 use Rattle.fitting.proofs.checks.check_unchosen.Statement.{statement}
