@@ -11,6 +11,8 @@ use std::collections::BTreeMap;
 use std::hint::black_box;
 use std::time::{Duration, Instant};
 
+pub mod cards;
+
 const NAMES: [&str; 4] = ["interpolate", "approximate", "approximate_within", "search_spread"];
 const MARKS: [&str; 5] = ["", "refined", "spread", "interpolated", "chosen"];
 

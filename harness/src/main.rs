@@ -34,6 +34,7 @@ fn main() {
         Some("bands") => bands::compare(number(1, 20_000), number(2, 1)),
         Some("tables") => tables::compare(number(1, 20_000), number(2, 1)),
         Some("ladders") => ladders::compare(number(1, 20_000), number(2, 1)),
+        Some("card") => ladders::cards::compare(number(1, 20_000), number(2, 1)),
         Some("try") => ladders::compare_stated(),
         Some("list") if words.len() == 2 => ladders::list(&words[1]),
         Some("bench") => {
@@ -46,7 +47,7 @@ fn main() {
         }
         _ => {
             eprintln!("beside roots COUNT SEED | readings COUNT SEED | knots COUNT SEED | bands COUNT SEED | tables COUNT SEED");
-            eprintln!("     | ladders COUNT SEED | try | list FILE | bench");
+            eprintln!("     | ladders COUNT SEED | card COUNT SEED | try | list FILE | bench");
             std::process::exit(2)
         }
     };

@@ -1,0 +1,56 @@
+// The card program: a ladder's text from standard input, the text of its curve or of the refusal to standard output.
+mod answer;
+
+ghost use Prim.Native.Nat.{_≤_};
+ghost use lib.ListN.{length};
+ghost use Rattle.card_reader.specs.Reading.{Held};
+ghost use Rattle.card.specs.Input.{HeldIn};
+use card_reader::State;
+
+// What one read brought.
+enum Input {
+    More(State),
+    End(State),
+}
+
+// Reads a part of the text.
+fn read_some(state: State, points: &mut [f64]) -> Input
+    requires { ⌜ Held state × (192 ≤ length (now points)) ⌝ }
+    ensures { λ r. ⌜ HeldIn r ⌝ }
+{
+    let mut buffer = io::large_buffer();
+    let got = libc::read(0, &mut buffer);
+    if got <= 0 {
+        return Input::End(state);
+    }
+    let n = io::count(got, &buffer);
+    Input::More(state.feed(&buffer[..n], points))
+}
+
+// Reads to the end. Nothing says that an input ends, so the reads are counted down from a number that no run uses up.
+fn read_all(points: &mut [f64]) -> State
+    requires { ⌜ 192 ≤ length (now points) ⌝ }
+{
+    let mut state = State::start();
+    let mut reads = 18446744073709551615u64;
+    while reads > 0 {
+        reads -= 1;
+        match read_some(state, points) {
+            Input::More(next) => {
+                state = next;
+            }
+            Input::End(last) => {
+                return last;
+            }
+        }
+    }
+    state
+}
+
+fn main() {
+    let mut points = [0.0; 192];
+    let state = read_all(&mut points);
+    let mut out = [0u8; 8192];
+    let n = answer::answer(state.finish(), &points, &mut out);
+    io::write_all(1, &out[..n]);
+}

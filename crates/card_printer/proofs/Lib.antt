@@ -1,0 +1,2 @@
+-- The laws of texts put one after the other.
+pub mod PutLaws

@@ -1,0 +1,37 @@
+-- Texts put one after the other. Assumes nothing.
+use Prim.Native.Nat.{ℕ, _+_, _≤_}
+use mathlib.Core.Path.{_≡_, sym, ap, _∙_}
+use mathlib.Core.List.{List, [], _++_, append-assoc}
+use native.Mathlib.Omega.{arith}
+use lib.ListN.{length, take, drop, length-append}
+use Rattle.places.specs.Places.{joined}
+use Rattle.places.specs.Regions.{splice}
+use Rattle.places.proofs.RegionLaws.{splice-join}
+use Rattle.places.proofs.PlaceLaws.{joined-more}
+use Rattle.places.proofs.GatheredLaws.{pasted-none, splice-is}
+use Rattle.card_printer.specs.Answer.{Put}
+
+pub put-put : {old mid new : List ℕ} {a m e : ℕ} (s t : List ℕ) → e ≤ length old → Put old mid a m s → Put mid new m e t → Put old new a e (s ++ t)
+put-put {old} {mid} {new} {a} {m} {e} s t h p q =
+    let l = length-append s t in
+    let u = p .place in
+    let w = q .place in
+    record {
+      place = omega arith;
+      bytes = q .bytes ∙ ap (splice m e t) (p .bytes) ∙ splice-join a m e s t old (omega arith) (omega arith) h (omega arith);
+    }
+
+-- a text laid down place by place
+pub put-pasted : (old new : List ℕ) (a e : ℕ) (text : List ℕ) → e ≡ a + length text → new ≡ (take a old ++ text) ++ drop (a + length text) old → Put old new a e text
+put-pasted old new a e text p h = record {
+  place = p;
+  bytes = h ∙ append-assoc (take a old) text (drop (a + length text) old) ∙ sym (splice-is a e text old (omega arith) (omega arith));
+}
+
+-- no line yet, and a line more
+pub put-start : (old : List ℕ) (a : ℕ) (f : ℕ → List ℕ) → Put old old a a (joined 0 f)
+unfolding joined
+put-start old a f = record { place = omega arith; bytes = pasted-none a old ∙ sym (splice-is a a [] old (omega arith) (omega arith)) }
+
+pub put-line : {old mid new : List ℕ} {a m e : ℕ} (f : ℕ → List ℕ) (i : ℕ) → e ≤ length old → Put old mid a m (joined i f) → Put mid new m e (f i) → Put old new a e (joined (i + 1) f)
+put-line {old} {mid} {new} {a} {m} {e} f i h p q = rw (joined-more i f) (put-put (joined i f) (f i) h p q)

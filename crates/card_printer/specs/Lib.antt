@@ -1,0 +1,2 @@
+-- The texts that the card program prints.
+pub mod Answer

@@ -1,0 +1,2 @@
+-- Laws of the text's digits.
+pub mod Digits
