@@ -1,15 +1,18 @@
 -- Texts put one after the other. Assumes nothing.
 use Prim.Native.Nat.{ℕ, _+_, _≤_}
-use mathlib.Core.Path.{_≡_, sym, ap, _∙_}
+use mathlib.Core.Path.{_≡_, refl, sym, ap, _∙_}
+use mathlib.Core.Bool.{Bool, true, false, not, _&&_, true≢false}
+use lib.Dec.{eqb, ltb, leb}
 use mathlib.Core.List.{List, [], _++_, append-assoc}
 use native.Mathlib.Omega.{arith}
 use lib.ListN.{length, take, drop, length-append}
+use borrow.Author.Tests.{eqb-true, ltb-false, leb-true, not-true}
 use Rattle.places.specs.Places.{joined}
 use Rattle.places.specs.Regions.{splice}
 use Rattle.places.proofs.RegionLaws.{splice-join}
 use Rattle.places.proofs.PlaceLaws.{joined-more}
 use Rattle.places.proofs.GatheredLaws.{pasted-none, splice-is}
-use Rattle.card_printer.specs.Answer.{Put}
+use Rattle.card_printer.specs.Answer.{Put, isPrintable}
 
 pub put-put : {old mid new : List ℕ} {a m e : ℕ} (s t : List ℕ) → e ≤ length old → Put old mid a m s → Put mid new m e t → Put old new a e (s ++ t)
 put-put {old} {mid} {new} {a} {m} {e} s t h p q =
@@ -35,3 +38,15 @@ put-start old a f = record { place = omega arith; bytes = pasted-none a old ∙ 
 
 pub put-line : {old mid new : List ℕ} {a m e : ℕ} (f : ℕ → List ℕ) (i : ℕ) → e ≤ length old → Put old mid a m (joined i f) → Put mid new m e (f i) → Put old new a e (joined (i + 1) f)
 put-line {old} {mid} {new} {a} {m} {e} f i h p q = rw (joined-more i f) (put-put (joined i f) (f i) h p q)
+
+-- what a printable answer has
+and-true : (a b : Bool) → (a && b) ≡ true → (a ≡ true) × (b ≡ true)
+and-true true b e = (refl, e)
+and-true false b e = absurd (true≢false (sym e))
+
+pub printable-gives : (knots mults poles : ℕ) → isPrintable knots mults poles ≡ true → (knots ≡ mults) × (knots ≤ 90) × (poles ≤ 192)
+unfolding isPrintable
+printable-gives knots mults poles e =
+    let a = and-true (eqb knots mults && not (ltb 90 knots)) (leb poles 192) e in
+    let b = and-true (eqb knots mults) (not (ltb 90 knots)) (a .0) in
+    (eqb-true _ _ (b .0), ltb-false _ _ (not-true _ (b .1)), leb-true _ _ (a .1))

@@ -1,7 +1,9 @@
 -- The text of an answer and of a refusal, document 01's output, and a text put into a lent slice. Definitions only.
-use Prim.Native.Nat.{ℕ, _+_, _/_}
+use Prim.Native.Nat.{ℕ, _+_, _/_, _≤_, _<_}
 use mathlib.Core.Path.{_≡_}
+use mathlib.Core.Bool.{Bool, true, not, _&&_}
 use mathlib.Core.List.{List, [], _∷_, _++_}
+use lib.Dec.{eqb, ltb, leb}
 use lib.Ieee.{Float}
 use lib.ListN.{length, getD}
 use Rattle.places.specs.Places.{joined}
@@ -12,6 +14,8 @@ use Rattle.geometry.specs.Points.{pointAt}
 use Rattle.fitting.specs.declared.Mark.{Mark}
 use Rattle.fitting.specs.declared.Mark.the-variants.{Refined, Spread, Interpolated, Chosen}
 use Rattle.fitting.specs.Marks.{largestDeviation}
+use Rattle.card_printer.specs.declared.Printed.{Printed}
+use Rattle.card_printer.specs.declared.Printed.the-variants.{Text, NoRoom}
 use Rattle.card_text.specs.Text.{ascii, line, doubleText, decimalText, coordinateNames}
 
 -- the mark in lower case
@@ -61,3 +65,12 @@ refusalText n = line (ascii "refused") [] ++ line (decimalText n) []
 pub record Put (old now : List ℕ) (a e : ℕ) (text : List ℕ) : Type 0 where
   pub place : e ≡ a + length text
   pub bytes : now ≡ splice a e text old
+
+-- a multiplicity for each knot, and no more knots and poles' places than 64 points of degree 25 have
+unfoldable pub isPrintable : ℕ → ℕ → ℕ → Bool
+isPrintable knots mults poles = eqb knots mults && not (ltb 90 knots) && leb poles 192
+
+-- the text at the front of a slice of any length; where it is not printable, or there are fewer than `room` places, the slice stays as it was
+abbrev pub PrintedAs : Bool → ℕ → List ℕ → List ℕ → List ℕ → Printed → Type 0
+PrintedAs printable room old new text (Text e) = (printable ≡ true) × (room ≤ length old) × Put old new 0 e text
+PrintedAs printable room old new text NoRoom = ((printable ≡ true) → length old < room) × (new ≡ old)

@@ -1,13 +1,13 @@
 // The text of an answer or of a refusal, put into a lent slice of bytes: document 01's output.
 ghost use mathlib.Core.Path.{_≡_};
+ghost use mathlib.Core.Bool.{true};
 ghost use mathlib.Core.List.{[], _∷_};
 ghost use Prim.Native.Nat.{_+_, _*_, _/_, _≤_};
 ghost use lib.ListN.{length};
 ghost use Rattle.io.specs.Counts.{Counts};
 ghost use Rattle.places.specs.Places.{joined};
-ghost use Rattle.fitting.specs.Marks.{largestDeviation};
 ghost use Rattle.card_text.specs.Text.{doubleText, decimalText, line};
-ghost use Rattle.card_printer.specs.Answer.{Put, markName, markLine, knotLine, pointLine, poleLine, answerText, refusalText};
+ghost use Rattle.card_printer.specs.Answer.{Put, markName, markLine, knotLine, pointLine, poleLine, answerText, refusalText, isPrintable, PrintedAs};
 use fitting::Mark;
 use geometry::Point;
 
@@ -57,18 +57,6 @@ fn put_mark(mark: Mark, out: &mut [u8], at: usize) -> usize
     }
 }
 
-// The deviation that the mark carries.
-fn largest(mark: Mark) -> f64
-    ensures { λ r. ⌜ r ≡ largestDeviation mark ⌝ }
-{
-    match mark {
-        Mark::Refined(d) => d,
-        Mark::Spread(d) => d,
-        Mark::Interpolated(d) => d,
-        Mark::Chosen(d) => d,
-    }
-}
-
 // The line of a knot.
 fn put_knot(knot: f64, multiplicity: u64, out: &mut [u8], at: usize) -> usize
     requires { ⌜ at + 38 ≤ length (now out) ⌝ }
@@ -100,7 +88,7 @@ fn put_values(mark: Mark, unreadable: u64, out: &mut [u8], at: usize) -> usize
 {
     let a = put_mark(mark, out, at);
     let b = put(b" ", out, a);
-    let c = put_double(largest(mark), out, b);
+    let c = put_double(mark.deviation(), out, b);
     let d = put(b" ", out, c);
     let e = put_decimal(unreadable, out, d);
     put(b"\n", out, e)
@@ -166,4 +154,53 @@ pub fn put_refusal(number: u32, out: &mut [u8]) -> usize
     let a = put(b"refused\n", out, 0);
     let b = put_decimal(number as u64, out, a);
     put(b"\n", out, b)
+}
+
+// A text printed, so many bytes, or that there is no room for it.
+pub enum Printed {
+    Text(usize),
+    NoRoom,
+}
+
+// Whether there is a multiplicity for each knot, and no more knots and poles than 64 points of degree 25 have.
+fn printable(knots: usize, mults: usize, poles: usize) -> bool
+    ensures { λ r. ⌜ r ≡ isPrintable knots mults poles ⌝ }
+{
+    if knots != mults {
+        return false;
+    }
+    if 90 < knots {
+        return false;
+    }
+    poles <= 192
+}
+
+// Prints an answer into a slice of any length.
+pub fn print_answer(
+    mark: Mark,
+    unreadable: usize,
+    knots: &[f64],
+    mults: &[u32],
+    poles: &[f64],
+    out: &mut [u8],
+) -> Printed
+    ensures { λ r. ⌜ PrintedAs (isPrintable (length (now (knots .entry))) (length (now (mults .entry))) (length (now (poles .entry)))) 8192 (now (out .entry)) (now (out .exit)) (answerText mark unreadable (now (knots .entry)) (now (mults .entry)) (now (poles .entry))) r ⌝ }
+{
+    if !printable(knots.len(), mults.len(), poles.len()) {
+        return Printed::NoRoom;
+    }
+    if out.len() < 8192 {
+        return Printed::NoRoom;
+    }
+    Printed::Text(put_answer(mark, unreadable, knots, mults, poles, out))
+}
+
+// Prints a refusal into a slice of any length.
+pub fn print_refusal(number: u32, out: &mut [u8]) -> Printed
+    ensures { λ r. ⌜ PrintedAs true 29 (now (out .entry)) (now (out .exit)) (refusalText number) r ⌝ }
+{
+    if out.len() < 29 {
+        return Printed::NoRoom;
+    }
+    Printed::Text(put_refusal(number, out))
 }

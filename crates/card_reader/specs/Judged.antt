@@ -10,6 +10,8 @@ use Rattle.card_reader.specs.Card.{Row, IsCard, laidOver}
 use Rattle.card_reader.specs.declared.Head.{Head}
 use Rattle.card_reader.specs.declared.Judgement.{Judgement}
 use Rattle.card_reader.specs.declared.Judgement.the-variants.{Card, TooMany, Unreadable}
+use Rattle.card_reader.specs.declared.Read.{Read}
+use Rattle.card_reader.specs.declared.Read.the-variants as read
 
 -- The text t is judged, and a slice that held old holds new. Card: it is the text of the card with that head and n points, at most 64, which lie
 -- in the slice. TooMany: it is the text of a card with more, and the first 64 lie there. Unreadable: it is the text of no card, and the points
@@ -30,3 +32,8 @@ abbrev pub Few : Judgement → Type 0
 Few (Card h n) = n ≤ 64
 Few TooMany = Unit
 Few Unreadable = Unit
+
+-- the same for a slice of any length: where it has no room for 64 points, nothing is read, and it stays as it was
+abbrev pub ReadInto : List ℕ → List Float → List Float → Read → Type 0
+ReadInto t old new (read.Judged j) = (192 ≤ length old) × Judged t old new j
+ReadInto t old new read.NoRoom = (length old < 192) × (new ≡ old)

@@ -6,7 +6,7 @@ ghost use Prim.Native.Nat.{_≤_, _<_};
 ghost use lib.ListN.{length};
 ghost use Rattle.geometry.specs.Points.{putPoint};
 ghost use Rattle.card_reader.specs.Card.{row, pointOf};
-ghost use Rattle.card_reader.specs.Judged.{Judged, Few, judgementNumber};
+ghost use Rattle.card_reader.specs.Judged.{Judged, Few, judgementNumber, ReadInto};
 ghost use Rattle.card_reader.specs.Reading.{next, Held, kept, after, keptAfter, judgementOf};
 use geometry::Point;
 use knots::Spacing;
@@ -153,6 +153,22 @@ pub fn judge(text: &[u8], points: &mut [f64]) -> Judgement
 {
     let state = State::start().feed(text, points);
     state.finish()
+}
+
+// A whole text read: what it is judged, or that the slice has no room for 64 points.
+pub enum Read {
+    Judged(Judgement),
+    NoRoom,
+}
+
+// Reads a whole text into a slice of any length.
+pub fn read_card(text: &[u8], points: &mut [f64]) -> Read
+    ensures { λ r. ⌜ ReadInto (now (text .entry)) (now (points .entry)) (now (points .exit)) r ⌝ }
+{
+    if points.len() < 192 {
+        return Read::NoRoom;
+    }
+    Read::Judged(judge(text, points))
 }
 
 impl Judgement {

@@ -7,6 +7,8 @@ pub mod making;
 pub mod output;
 pub mod refining;
 
+ghost use mathlib.Core.Path.{_≡_};
+ghost use Rattle.fitting.specs.Marks.{largestDeviation};
 use bspline::Refusal;
 use tables::Data;
 use tables::Measured;
@@ -18,6 +20,20 @@ pub enum Mark {
     Spread(f64),
     Interpolated(f64),
     Chosen(f64),
+}
+
+impl Mark {
+    // The largest computed deviation.
+    pub fn deviation(self) -> f64
+        ensures { λ r. ⌜ r ≡ largestDeviation self ⌝ }
+    {
+        match self {
+            Mark::Refined(x) => x,
+            Mark::Spread(x) => x,
+            Mark::Interpolated(x) => x,
+            Mark::Chosen(x) => x,
+        }
+    }
 }
 
 // The mark beside the counts: poles, distinct knots, unreadable deviations.

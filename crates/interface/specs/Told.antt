@@ -13,24 +13,15 @@ use Rattle.bspline.specs.declared.Reading.the-variants.{Read, Refused as Unread
 use Rattle.bspline.specs.Reader.{readingNumber}
 use Rattle.knots.specs.declared.Spacing.{Spacing}
 use Rattle.knots.specs.declared.Spacing.the-variants.{Chordal, Centripetal}
-use Rattle.fitting.specs.declared.Mark.{Mark}
-use Rattle.fitting.specs.declared.Mark.the-variants.{Refined, Spread, Interpolated, Chosen}
 use Rattle.fitting.specs.declared.Call.{Call}
 use Rattle.fitting.specs.declared.Answer.{Answer}
 use Rattle.fitting.specs.declared.Answer.the-variants.{Fitted, Refused}
-use Rattle.fitting.specs.Marks.{largestDeviation}
+use Rattle.fitting.specs.Marks.{largestDeviation, markNumber}
 use Rattle.fitting.specs.Ladders.{Lent, lent, resultOf, resultNumber, answerOf, ladderChecks, cleared, HandsOut}
 
 -- 0 is chordal, any other number centripetal
 abbrev pub spacingOf : ℕ → Spacing
 spacingOf k = cond (eqb k 0) Chordal Centripetal
-
--- a mark by its number
-abbrev pub markNumber : Mark → ℕ
-markNumber (Refined x) = 1
-markNumber (Spread x) = 2
-markNumber (Interpolated x) = 3
-markNumber (Chosen x) = 4
 
 -- room for the largest deviation, and for mark, poles, distinct knots and unreadable deviations
 abbrev pub tellable : List Float → List ℕ → Bool

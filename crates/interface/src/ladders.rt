@@ -3,9 +3,9 @@ ghost use mathlib.Core.Path.{_≡_};
 ghost use Prim.Native.Nat.{_≤_};
 ghost use lib.ListN.{length};
 ghost use Rattle.fitting.specs.declared.Call.the-variants.{Interpolate, Approximate, ApproximateWithin, SearchSpread};
-ghost use Rattle.fitting.specs.Marks.{largestDeviation};
+ghost use Rattle.fitting.specs.Marks.{markNumber};
 ghost use Rattle.fitting.specs.Ladders.{lent, answerNumber, resultNumber, resultOf};
-ghost use Rattle.interface.specs.Told.{spacingOf, markNumber, toldLargest, toldCounts, nothing, Told};
+ghost use Rattle.interface.specs.Told.{spacingOf, toldLargest, toldCounts, nothing, Told};
 use bspline::Verdict;
 use fitting::Answer;
 use fitting::Call;
@@ -33,17 +33,6 @@ fn mark_number(mark: Mark) -> usize
     }
 }
 
-fn largest_deviation(mark: Mark) -> f64
-    ensures { λ r. ⌜ r ≡ largestDeviation mark ⌝ }
-{
-    match mark {
-        Mark::Refined(x) => x,
-        Mark::Spread(x) => x,
-        Mark::Interpolated(x) => x,
-        Mark::Chosen(x) => x,
-    }
-}
-
 // The number of an answer, with the mark and the counts of a fit in the lent slices.
 fn tell(answer: Answer, largest: &mut [f64], counts: &mut [usize]) -> u32
     requires { ⌜ (1 ≤ length (now largest)) × (4 ≤ length (now counts)) ⌝ }
@@ -55,7 +44,7 @@ fn tell(answer: Answer, largest: &mut [f64], counts: &mut [usize]) -> u32
         Answer::Refused(c) => c.number(),
         Answer::Fitted(f) => {
             let mark = f.mark;
-            largest[0] = largest_deviation(mark);
+            largest[0] = mark.deviation();
             counts[0] = mark_number(mark);
             counts[1] = f.poles;
             counts[2] = f.knots;

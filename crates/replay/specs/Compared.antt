@@ -1,6 +1,5 @@
 -- An answer beside the list's: bit for bit, and one NaN equals any other. Definitions only.
-use Prim.Native.Nat.{ℕ, _+_, _*_, _≤_}
-use mathlib.Core.Path.{_≡_}
+use Prim.Native.Nat.{ℕ, _+_, _*_}
 use mathlib.Core.Bool.{Bool, false, cond, _&&_}
 use mathlib.Core.List.{List}
 use lib.Dec.{eqb, ltb}
@@ -9,12 +8,10 @@ use lib.Ieee.{Float, binary64, toBits}
 use Rattle.places.specs.Places.{allBelow}
 use Rattle.geometry.specs.Doubles.{at}
 use Rattle.bspline.specs.Refusals.{numberOf}
-use Rattle.fitting.specs.declared.Mark.{Mark}
-use Rattle.fitting.specs.declared.Mark.the-variants.{Refined, Spread, Interpolated, Chosen}
 use Rattle.fitting.specs.declared.Fit.{Fit}
 use Rattle.fitting.specs.declared.Answer.{Answer}
 use Rattle.fitting.specs.declared.Answer.the-variants.{Fitted, Refused}
-use Rattle.fitting.specs.Marks.{largestDeviation}
+use Rattle.fitting.specs.Marks.{largestDeviation, markNumber}
 use Rattle.replay.specs.declared.answers.ListedFit.{ListedFit}
 use Rattle.replay.specs.declared.answers.Listed.{Listed}
 use Rattle.replay.specs.declared.answers.Listed.the-variants as listed
@@ -28,13 +25,6 @@ sameDoubles xs n w a = cond (ltb (length xs) n) false (allBelow n (λ k. eqb (to
 -- there are n numbers, and the first n are the n words from a on
 unfoldable pub sameNumbers : List ℕ → ℕ → List ℕ → ℕ → Bool
 sameNumbers xs n w a = cond (ltb (length xs) n) false (allBelow n (λ k. eqb (getD xs k 0) (getD w (a + k) 0)))
-
--- a mark by its number
-abbrev pub markNumber : Mark → ℕ
-markNumber (Refined x) = 1
-markNumber (Spread x) = 2
-markNumber (Interpolated x) = 3
-markNumber (Chosen x) = 4
 
 unfoldable pub refusedWith : Answer → ℕ → Bool
 refusedWith (Refused c) number = eqb (numberOf c) number

@@ -2,8 +2,8 @@
 // then the flat knots, the distinct knots, the multiplicities and the poles.
 ghost use mathlib.Core.Path.{_≡_};
 ghost use lib.ListN.{length};
-ghost use Rattle.fitting.specs.Marks.{largestDeviation};
-ghost use Rattle.replay.specs.Compared.{markNumber, refusedWith, sameTold, sameValues, sameFit};
+ghost use Rattle.fitting.specs.Marks.{markNumber};
+ghost use Rattle.replay.specs.Compared.{refusedWith, sameTold, sameValues, sameFit};
 ghost use Rattle.replay.specs.Listed.{listedAt, Within, Held};
 use crate::doubles::same_doubles;
 use crate::doubles::same_numbers;
@@ -79,17 +79,6 @@ fn mark_number(mark: Mark) -> u64
     }
 }
 
-fn largest_deviation(mark: Mark) -> f64
-    ensures { λ r. ⌜ r ≡ largestDeviation mark ⌝ }
-{
-    match mark {
-        Mark::Refined(x) => x,
-        Mark::Spread(x) => x,
-        Mark::Interpolated(x) => x,
-        Mark::Chosen(x) => x,
-    }
-}
-
 // Whether an answer is the refusal of a number.
 pub fn refused_with(answer: Answer, number: u64) -> bool
     ensures { λ r. ⌜ r ≡ refusedWith answer number ⌝ }
@@ -108,7 +97,7 @@ fn same_told(fit: Fit, listed: ListedFit) -> bool
     if mark_number(mark) != listed.mark {
         return false;
     }
-    if card_text::to_word(largest_deviation(mark)) != listed.largest {
+    if card_text::to_word(mark.deviation()) != listed.largest {
         return false;
     }
     if fit.poles != listed.poles {

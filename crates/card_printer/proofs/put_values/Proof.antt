@@ -6,7 +6,7 @@ use Rattle.card_printer.proofs.put_values.Statement.{statement}
 use Rattle.card_printer.proofs.put_values.Tie as tie
 use Rattle.card_printer.proofs.put_values.Reads as reads
 use Rattle.card_printer.proofs.put_values.Lts as lts
-use Rattle.card_printer.proofs.largest.Reads as largest-reads
+use Rattle.fitting.proofs.Mark.deviation.Reads as deviation-reads
 use Rattle.card_printer.proofs.put.Reads as put-reads
 use Rattle.card_printer.proofs.put_decimal.Reads as put-decimal-reads
 use Rattle.card_printer.proofs.put_double.Reads as put-double-reads
@@ -21,8 +21,8 @@ slice-aggregate-put c = search needs
 put-requires : tie.Need-put-requires
 put-requires c κs = search needs
 
-largest-requires : tie.Need-largest-requires
-largest-requires c κs = search needs
+deviation-requires : tie.Need-deviation-requires
+deviation-requires c κs = search needs
 
 put-double-requires : tie.Need-put-double-requires
 put-double-requires c κs = search needs
@@ -48,7 +48,7 @@ same-length c = search needs
 returns : tie.Need-returns
 returns c =
     let last = c .before .before .put3 .ensures .place in (
-      rw (← c .before .before .before .before .before .before .before .before .before .before .before .before .before .before .before .before .before .before .largest .ensures) (put-put _ _ (omega arith)
+      rw (← c .before .before .before .before .before .before .before .before .before .before .before .before .before .before .before .before .before .before .deviation .ensures) (put-put _ _ (omega arith)
           (c .before .before .before .before .before .before .before .before .before .before .before .before .before .before .before .before .before .before .before .before .before .before .before .before .before .before .put-mark .ensures .0)
           (put-put _ _ (omega arith)
           (c .before .before .before .before .before .before .before .before .before .before .before .before .before .before .before .before .before .before .before .before .before .put .ensures)
@@ -69,7 +69,7 @@ put-values-spec =
     put-mark-requires
     slice-aggregate-put
     put-requires
-    largest-requires
+    deviation-requires
     put-double-requires
     slice-aggregate-put-2
     put-requires-2

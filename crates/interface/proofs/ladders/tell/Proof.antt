@@ -9,7 +9,7 @@ use borrow.Author.Needs.{needs}
 use Rattle.interface.proofs.ladders.tell.Statement.{statement}
 use Rattle.interface.proofs.ladders.tell.Tie as tie
 use Rattle.bspline.proofs.Refusal.number.Reads as number-reads
-use Rattle.interface.proofs.ladders.largest_deviation.Reads as largest-deviation-reads
+use Rattle.fitting.proofs.Mark.deviation.Reads as deviation-reads
 use Rattle.interface.proofs.ladders.mark_number.Reads as mark-number-reads
 
 enum-known-answer : tie.Need-enum-known-answer
@@ -21,8 +21,8 @@ number-requires c κs = search needs
 enum-known-answer-2 : tie.Need-enum-known-answer-2
 enum-known-answer-2 c = search needs
 
-largest-deviation-requires : tie.Need-largest-deviation-requires
-largest-deviation-requires c κs = search needs
+deviation-requires : tie.Need-deviation-requires
+deviation-requires c κs = search needs
 
 slice-write-largest : tie.Need-slice-write-largest
 slice-write-largest c = search needs
@@ -71,7 +71,7 @@ returns-2 c =
     let a = s .args in
     let g = c .before .before .before .answer2 .given .1 in (
       sym (ap answerNumber g),
-      (rw (c .before .largest-deviation .ensures) (sym (ap (λ (x : Answer). toldLargest x (a .largest .now)) g)), rw (c .mark-number .ensures) (sym (ap (λ (x : Answer). toldCounts x (a .counts .now)) g))),
+      (rw (c .before .deviation .ensures) (sym (ap (λ (x : Answer). toldLargest x (a .largest .now)) g)), rw (c .mark-number .ensures) (sym (ap (λ (x : Answer). toldCounts x (a .counts .now)) g))),
     )
 
 pub tell-spec : {M : Type 1} → statement M
@@ -81,7 +81,7 @@ tell-spec =
     enum-known-answer
     number-requires
     enum-known-answer-2
-    largest-deviation-requires
+    deviation-requires
     slice-write-largest
     mark-number-requires
     slice-write-counts
