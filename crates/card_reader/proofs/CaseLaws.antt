@@ -6,7 +6,8 @@ use mathlib.Core.List.{List}
 use lib.Dec.{ltb, eqb}
 use lib.ListN.{length, getD}
 use borrow.Author.Tests.{eqb-true, eqb-false, ltb-true}
-use Rattle.card_reader.specs.Reading.{literalNext, digitOf, wordNext, degreeNext, onWord}
+use Rattle.card_text.specs.Text.{digitOf}
+use Rattle.card_reader.specs.Reading.{literalNext, wordNext, degreeNext, onWord}
 use Rattle.card_reader.specs.declared.State.{State}
 use Rattle.card_reader.specs.declared.State.the-variants.{Degree, Chordal, Unreadable}
 use Rattle.card_reader.specs.declared.steps.Word.{Word}

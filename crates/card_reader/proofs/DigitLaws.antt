@@ -4,8 +4,7 @@ use mathlib.Core.Path.{_≡_}
 use lib.Dec.{ltb}
 use borrow.Author.Tests.{lt-ltb, le-ltb, ltb-true, ltb-false}
 use native.Mathlib.Omega.{arith}
-use Rattle.card_text.specs.Text.{glyph}
-use Rattle.card_reader.specs.Reading.{digitOf}
+use Rattle.card_text.specs.Text.{digitOf, glyph}
 use Rattle.card_reader.proofs.CaseLaws.{test}
 
 -- a byte that is a digit is the digit's

@@ -4,7 +4,8 @@ use mathlib.Core.Path.{_≡_}
 use native.Mathlib.Numerals.{add-one}
 use native.Mathlib.Nat.{pow-zero}
 use native.Mathlib.Omega.{arith}
-use Rattle.card_reader.specs.Reading.{next, Held, Digits, digitOf, after, kept, keptAfter}
+use Rattle.card_text.specs.Text.{digitOf}
+use Rattle.card_reader.specs.Reading.{next, Held, Digits, after, kept, keptAfter}
 use Rattle.card_reader.specs.declared.State.{State}
 use Rattle.card_reader.specs.declared.State.the-variants.{Names, Degree, Chordal, Centripetal, Bound, Without, Axes, X, Y, Z, Unreadable}
 use Rattle.card_reader.specs.declared.Tolerance.the-variants as tolerance

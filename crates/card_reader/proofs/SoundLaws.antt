@@ -10,9 +10,9 @@ use lib.Dec.{eqb, ltb, lit<, lit≤}
 use lib.ListN.{length, getD, take, length-append}
 use lib.Seq.{take-suc, take-all}
 use borrow.Author.Tests.{eqb-true, ltb-true, ltb-false, eq-eqb, ne-eqb}
-use Rattle.card_text.specs.Text.{digits, wordText, decimalText, line, coordinateNames}
+use Rattle.card_text.specs.Text.{digitOf, digits, wordText, decimalText, line, coordinateNames}
 use Rattle.card_reader.specs.Card.{headNames, spacingText, toleranceText, Row, rowText, rowsText, headText, cardText, HeadFits, RowFits, RowsFit}
-use Rattle.card_reader.specs.Reading.{next, digitOf, Digits, head, more, after}
+use Rattle.card_reader.specs.Reading.{next, Digits, head, more, after}
 use Rattle.card_reader.specs.declared.Head.{Head}
 use Rattle.knots.specs.declared.Spacing.{Spacing}
 use Rattle.knots.specs.declared.Spacing.the-variants as spacing

@@ -7,6 +7,7 @@ use lib.ListN.{length}
 use Rattle.bspline.specs.declared.Refusal.the-variants.{TooLarge}
 use Rattle.bspline.specs.Refusals.{numberOf}
 use Rattle.card_reader.specs.Card.{Row, IsCard, laidOver}
+use Rattle.card_reader.specs.Reading.{begun, keptAfter}
 use Rattle.card_reader.specs.declared.Head.{Head}
 use Rattle.card_reader.specs.declared.Judgement.{Judgement}
 use Rattle.card_reader.specs.declared.Judgement.the-variants.{Card, TooMany, Unreadable}
@@ -33,7 +34,7 @@ Few (Card h n) = n ≤ 64
 Few TooMany = Unit
 Few Unreadable = Unit
 
--- the same for a slice of any length: where it has no room for 64 points, nothing is read, and it stays as it was
+-- the same for a slice of any length, and what it holds after every text; where it has no room for 64 points, nothing is read, and it stays as it was
 abbrev pub ReadInto : List ℕ → List Float → List Float → Read → Type 0
-ReadInto t old new (read.Judged j) = (192 ≤ length old) × Judged t old new j
+ReadInto t old new (read.Judged j) = (192 ≤ length old) × Judged t old new j × (new ≡ keptAfter begun t old)
 ReadInto t old new read.NoRoom = (length old < 192) × (new ≡ old)

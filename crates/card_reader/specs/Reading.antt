@@ -5,7 +5,7 @@ use mathlib.Core.List.{List, [], _∷_, _++_}
 use lib.Dec.{ltb, eqb}
 use lib.Ieee.{Float}
 use lib.ListN.{length, getD}
-use Rattle.card_text.specs.Text.{coordinateNames}
+use Rattle.card_text.specs.Text.{digitOf, coordinateNames}
 use Rattle.card_reader.specs.Card.{headNames, spacingText, toleranceText, row, pointOf}
 use Rattle.geometry.specs.Points.{putPoint}
 use Rattle.card_reader.specs.declared.Head.{Head}
@@ -20,9 +20,9 @@ use Rattle.card_reader.specs.declared.steps.Word.the-variants.{More, Who
 use Rattle.card_reader.specs.declared.Judgement.{Judgement}
 use Rattle.card_reader.specs.declared.Judgement.the-variants as judgement
 
--- the value of a hexadecimal digit, and 16 for another byte
-unfoldable pub digitOf : ℕ → ℕ
-digitOf b = cond (ltb b 48) 16 (cond (ltb b 58) (b - 48) (cond (ltb b 97) 16 (cond (ltb b 103) (b - 87) 16)))
+-- nothing is read yet
+abbrev pub begun : State
+begun = Names 0
 
 -- a digit more of a word, or, after 16, the byte that ends it
 unfoldable pub wordNext : ℕ → ℕ → ℕ → ℕ → Word

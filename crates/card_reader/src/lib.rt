@@ -7,7 +7,7 @@ ghost use lib.ListN.{length};
 ghost use Rattle.geometry.specs.Points.{putPoint};
 ghost use Rattle.card_reader.specs.Card.{row, pointOf};
 ghost use Rattle.card_reader.specs.Judged.{Judged, Few, judgementNumber, ReadInto};
-ghost use Rattle.card_reader.specs.Reading.{next, Held, kept, after, keptAfter, judgementOf};
+ghost use Rattle.card_reader.specs.Reading.{begun, next, Held, kept, after, keptAfter, judgementOf};
 use geometry::Point;
 use knots::Spacing;
 
@@ -72,7 +72,7 @@ fn lay(n: usize, x: u64, y: u64, z: u64, points: &mut [f64])
 impl State {
     // Nothing is read yet.
     pub fn start() -> State
-        ensures { λ r. ⌜ r ≡ State.Names 0 ⌝ }
+        ensures { λ r. ⌜ r ≡ begun ⌝ }
     {
         State::Names(0)
     }
@@ -149,7 +149,7 @@ impl State {
 // Judges a whole text, and lays the points down.
 pub fn judge(text: &[u8], points: &mut [f64]) -> Judgement
     requires { ⌜ 192 ≤ length (now points) ⌝ }
-    ensures { λ r. ⌜ Judged (now (text .entry)) (now (points .entry)) (now (points .exit)) r ⌝ }
+    ensures { λ r. ⌜ Judged (now (text .entry)) (now (points .entry)) (now (points .exit)) r × (now (points .exit) ≡ keptAfter begun (now (text .entry)) (now (points .entry))) ⌝ }
 {
     let state = State::start().feed(text, points);
     state.finish()

@@ -1,7 +1,7 @@
 // One byte more of each part of a card's text.
 ghost use mathlib.Core.Path.{_≡_};
 ghost use Prim.Native.Nat.{_^_, _≤_, _<_};
-ghost use Rattle.card_reader.specs.Reading.{digitOf, wordNext, degreeNext, namesNext, chordalNext, centripetalNext, toleranceNext, withoutNext, axesNext, xNext, yNext, zNext};
+ghost use Rattle.card_reader.specs.Reading.{wordNext, degreeNext, namesNext, chordalNext, centripetalNext, toleranceNext, withoutNext, axesNext, xNext, yNext, zNext};
 use crate::Head;
 use crate::State;
 use crate::Tolerance;
@@ -12,23 +12,6 @@ pub enum Word {
     More(usize, u64),
     Whole(u64),
     Wrong,
-}
-
-// The value of a hexadecimal digit, and 16 for another byte.
-pub fn digit(b: u8) -> u64
-    ensures { λ r. ⌜ r ≡ digitOf b ⌝ }
-{
-    if b < 48 {
-        16
-    } else if b < 58 {
-        (b - 48) as u64
-    } else if b < 97 {
-        16
-    } else if b < 103 {
-        (b - 87) as u64
-    } else {
-        16
-    }
 }
 
 // A digit more of a word, or, after 16, the byte that ends it.
@@ -42,7 +25,7 @@ pub fn word_digit(k: usize, v: u64, b: u8, end: u8) -> Word
         }
         return Word::Wrong;
     }
-    let d = digit(b);
+    let d = card_text::digit(b);
     if d < 16 {
         Word::More(k + 1, v * 16 + d)
     } else {
@@ -62,7 +45,7 @@ pub fn degree(k: usize, v: u64, b: u8) -> State
         let d = v as usize;
         return State::Chordal(d, 0);
     }
-    let d = digit(b);
+    let d = card_text::digit(b);
     if d < 10 {
         if k == 0 {
             return State::Degree(1, d);

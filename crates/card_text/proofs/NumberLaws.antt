@@ -9,7 +9,7 @@ use borrow.Author.Tests.{lt-ltb, le-ltb, ltb-true, ltb-false}
 use native.Mathlib.Numerals.{add-one}
 use native.Mathlib.Nat.{pow-suc, pow-le-pow-right, mul-le-mul-right, div-eq-of-lt-le, mul-add-mod-self-right, mod-eq-of-lt, div-lt-iff-lt-mul, le-div-iff-mul-le, one-le-pow}
 use native.Mathlib.Omega.{arith}
-use Rattle.card_text.specs.Text.{glyph, digits, wordText, decimalOf, decimalText}
+use Rattle.card_text.specs.Text.{glyph, digits, decimalOf, decimalText}
 
 -- a digit more keeps the range
 pub more-digits : (b k v d : ℕ) → v < b ^ k → d < b → v * b + d < b ^ suc k
@@ -71,11 +71,6 @@ plain (suc m) n h = go (ltb n (10 ^ suc m)) refl (plain m n)
 pub digits-length : (b k n : ℕ) → length (digits b k n) ≡ k
 digits-length b zero n = refl
 digits-length b (suc k) n = length-append (digits b k (n / b)) _ ∙ ap (λ m. m + 1) (digits-length b k (n / b)) ∙ add-one k
-
--- a word is 16 bytes long
-pub word-length : (w : ℕ) → length (wordText w) ≡ 16
-unfolding wordText
-word-length w = digits-length 16 16 w
 
 -- 16 digits or more that begin with no needless zero are 16
 pub sixteen : (n k : ℕ) → n < 2 ^ 64 → 16 ≤ k → (16 < k → 16 ^ (k - 1) ≤ n) → k ≡ 16

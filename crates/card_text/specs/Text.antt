@@ -1,5 +1,5 @@
 -- Words, decimals and lines of document 01's texts. A text is a list of bytes. Definitions only.
-use Prim.Native.Nat.{ℕ, zero, suc, _+_, _/_, _%_}
+use Prim.Native.Nat.{ℕ, zero, suc, _+_, _-_, _/_, _%_}
 use Prim.Native.Char.{code}
 use Prim.Native.String.{String, [] as []ˢ, _∷_ as _∷ˢ_}
 use mathlib.Core.Bool.{cond}
@@ -15,6 +15,10 @@ ascii (c ∷ˢ s) = code c ∷ ascii s
 -- the byte of a digit below 16: `0` to `9`, then `a` to `f`
 abbrev pub glyph : ℕ → ℕ
 glyph d = cond (ltb d 10) (48 + d) (87 + d)
+
+-- and back: the value of a lowercase hexadecimal digit, and 16 for another byte
+unfoldable pub digitOf : ℕ → ℕ
+digitOf b = cond (ltb b 48) 16 (cond (ltb b 58) (b - 48) (cond (ltb b 97) 16 (cond (ltb b 103) (b - 87) 16)))
 
 -- the last k digits of n in base b, the highest first
 abbrev pub digits : ℕ → ℕ → ℕ → List ℕ

@@ -85,6 +85,11 @@ unfolding directionOf
 direction-kept j points w w′ e h k =
     ap (ladder points (j .table .degree)) (kept-part (j .flat) e w w′ k (j .params) (j .params + j .table .count) (omega arith) h)
 
+-- what changes nothing but the regions up to the deviations changes nothing but those up to the new knots
+pub wider : (j : Job) (points w : List Float) (index : List ℕ) → HasJob j points w index → (w₁ w₂ : List Float) → Kept (j .flat) (j .deviations + j .table .count) w₁ w₂
+    → Kept (j .flat) (j .fresh + j .table .count) w₁ w₂
+wider j points w index has w₁ w₂ k = kept-wider (j .flat) (j .deviations + j .table .count) (j .flat) (j .fresh + j .table .count) w₁ w₂ (omega arith) (omega (arith, has .deviations-in)) k
+
 -- as many parameters as points
 pub params-long : (j : Job) (points w : List Float) (index : List ℕ) → HasJob j points w index → length (directionOf j points w .params) ≡ j .table .count
 unfolding directionOf ladder
@@ -428,9 +433,6 @@ module _ (j : Job) (points w : List Float) (index : List ℕ) (has : HasJob j po
   put-spread =
       let z : j .flat + n + j .table .degree + 1 ≡ j .flat + (n + j .table .degree + 1) = omega arith in
       a ∙ ap (λ (k : ℕ). splice (j .flat) k spreadOut w) z
-
-  pub has-spread : HasJob j points wₖ index
-  has-spread = has-job-put j points w index has (n + j .table .degree + 1) some-knots wₖ spreadOut size-spread put-spread
 
   pub attempts-spread : (w′ : List Float) (index′ : List ℕ) (r : Attempt) → Attempts j points (n + j .table .degree + 1) wₖ w′ index index′ r
       → AttemptsSpread j points n w w′ index index′ r

@@ -11,7 +11,7 @@ use Rattle.tables.specs.declared.Measured.{Measured}
 use Rattle.tables.specs.Deviations.{allWithin}
 use Rattle.tables.specs.Directions.{Direction, ladder}
 use Rattle.tables.specs.Layout.{Kept}
-use Rattle.tables.proofs.KeptLaws.{kept-same, kept-wider, kept-then}
+use Rattle.tables.proofs.KeptLaws.{kept-same, kept-then}
 use Rattle.search.specs.declared.Search.{Search}
 use Rattle.search.specs.declared.Found.{Found}
 use Rattle.search.specs.declared.Found.the-variants.{At, Nothing}
@@ -25,7 +25,7 @@ use Rattle.fitting.specs.declared.Attempt.the-variants.{Unfitted, Fittin
 use Rattle.fitting.specs.declared.Reached.the-variants.{Missed, Met}
 use Rattle.fitting.specs.Within.{Marked, spread, fitOnSpread, candidatePasses, passesOnSpread, spreadOr, foundOr, fitOnSpreadKnots}
 use Rattle.fitting.specs.Jobs.{directionOf, candidateIn, attempted, HasJob, AttemptsSpread, Tested, FewestFound, spreadIn, SpreadsBelow}
-use Rattle.fitting.proofs.AttemptLaws.{has-job-kept, direction-kept, spread-knots, missed, met}
+use Rattle.fitting.proofs.AttemptLaws.{has-job-kept, direction-kept, wider, spread-knots, missed, met}
 
 -- ---- one count's test, from what the attempt at it came to
 module _ (j : Job) (points : List Float) (tolerance : Float) (m : ℕ) (w w′ : List Float) (index index′ : List ℕ) (r : Attempt)
@@ -96,14 +96,11 @@ module _ (j : Job) (points : List Float) (tolerance : Float) (last : ℕ) (w w�
   pub found-between : (m : ℕ) → r ≡ At m → last ≤ j .table .count → (j .table .degree < m) × (m ≤ j .table .count)
   found-between m e h = let f = found _ _ _ m (sym (x .answer) ∙ e) in (f .above, omega (arith, f .below))
 
-  wider : (w₁ w₂ : List Float) → Kept (j .flat) (j .deviations + j .table .count) w₁ w₂ → Kept (j .flat) (j .fresh + j .table .count) w₁ w₂
-  wider w₁ w₂ k = kept-wider (j .flat) (j .deviations + j .table .count) (j .flat) (j .fresh + j .table .count) w₁ w₂ (omega arith) (omega (arith, has .deviations-in)) k
-
   pub spread-nothing : r ≡ Nothing → SpreadsBelow j points tolerance last w w′ index index′ Missed
   unfolding fitOnSpreadKnots foundOr spreadIn directionOf ladder
   spread-nothing e = record {
     answer = λ other. ap (foundOr (directionOf j points w) other) (sym (x .answer) ∙ e);
-    reaches = missed (x .firsts) (wider w w′ (x .kept));
+    reaches = missed (x .firsts) (wider j points w index has w w′ (x .kept));
   }
 
   module _ (m : ℕ) (e : r ≡ At m) (most : last ≤ j .table .count) (w″ : List Float) (index″ : List ℕ) (a : Attempt) (y : AttemptsSpread j points m w′ w″ index′ index″ a) where
@@ -116,7 +113,7 @@ module _ (j : Job) (points : List Float) (tolerance : Float) (last : ℕ) (w w�
         ∙ ap (spreadOr other m) (y .answer)
 
     kept-found : Kept (j .flat) (j .fresh + j .table .count) w w″
-    kept-found = wider w w″ (kept-then _ _ w w′ w″ (x .kept) (y .kept))
+    kept-found = wider j points w index has w w″ (kept-then _ _ w w′ w″ (x .kept) (y .kept))
 
     pub spread-unfitted : a ≡ Unfitted → SpreadsBelow j points tolerance last w w″ index index″ Missed
     unfolding attempted spreadOr spreadIn

@@ -5,13 +5,12 @@ use mathlib.Core.Bool.{true, _&&_}
 use mathlib.Core.List.{List, [], _∷_}
 use Prim.Native.Nat.{zero, suc}
 use native.Mathlib.Nat.{le-of-suc-le-suc, not-suc-le-zero}
-use native.Mathlib.Omega.{arith}
 use lib.Dec.{T}
 use lib.Ieee.{Float, le}
 use lib.Ieee.Fits.{and-l, and-r}
 use Rattle.geometry.specs.Doubles.{nought, largest}
 use Rattle.geometry.proofs.FloatOrder.{holds, test, le-transitive, not-above}
-use Rattle.geometry.proofs.Folds.{Each, largestFrom-le, le-largestFrom}
+use Rattle.geometry.proofs.Folds.{Each, largestFrom-le}
 use Rattle.tables.specs.Deviations.{allWithin, largestWithin}
 use Rattle.fitting.specs.Tolerance.{NoneAbove}
 
@@ -21,18 +20,10 @@ each→none t [] e k h = absurd (not-suc-le-zero h)
 each→none t (d ∷ ds) e zero h = e .0
 each→none t (d ∷ ds) e (suc k) h = each→none t ds (e .1) k (le-of-suc-le-suc h)
 
-none→each : (t : Float) (ds : List Float) → NoneAbove t ds → Each t ds
-none→each t [] n = tt
-none→each t (d ∷ ds) n = (n 0 (omega arith), none→each t ds (λ k h. n (suc k) (omega arith)))
-
--- the largest is within the tolerance where 0 is and no deviation is above it, and nowhere else
+-- where the largest is within the tolerance, 0 is, and no deviation is above it
 pub largest-none : (t : Float) (ds : List Float) → largestWithin t ds ≡ true → (le nought t ≡ true) × NoneAbove t ds
 unfolding largestWithin largest
 largest-none t ds h = let r = largestFrom-le nought ds t (test h) in (holds _ (r .0), each→none t ds (r .1))
-
-pub none-largest : (t : Float) (ds : List Float) → le nought t ≡ true → NoneAbove t ds → largestWithin t ds ≡ true
-unfolding largestWithin largest
-none-largest t ds z n = holds _ (le-largestFrom nought ds t (test z) (none→each t ds n))
 
 pub largest-mono : (t u : Float) (ds : List Float) → le t u ≡ true → largestWithin t ds ≡ true → largestWithin u ds ≡ true
 unfolding largestWithin

@@ -20,6 +20,7 @@ use Rattle.geometry.specs.Doubles.{at, largest, isFinite}
 use Rattle.geometry.specs.Order.{rankOf, inserted, sortedOnto, sorted}
 use Rattle.bands.specs.Cholesky.{substituteSymmetricBand}
 use Rattle.knots.specs.Knots.{bezierKnots, approximationKnots}
+use Rattle.knots.proofs.ParameterLaws.{when-some}
 use Rattle.tables.specs.BasisTable.{BasisTable}
 use Rattle.tables.specs.LeastSquares.{rightHand, solvedLines, leastSquares}
 use Rattle.tables.specs.Deviations.{largestWithin}
@@ -31,22 +32,18 @@ use Rattle.fitting.proofs.ToleranceLaws.{length-clamped}
 
 -- ---- lengths of poles
 
-private-solved : (t : BasisTable) (m lines : ℕ) (point : ℕ → ℕ → Point) (o : Outcome (List Float)) (poles : List Float) → solvedLines t m lines point o ≡ some poles → length poles ≡ lines * (3 * m)
+solved-long : (t : BasisTable) (m lines : ℕ) (point : ℕ → ℕ → Point) (o : Outcome (List Float)) (poles : List Float) → solvedLines t m lines point o ≡ some poles → length poles ≡ lines * (3 * m)
 unfolding solvedLines
-private-solved t m lines point (outcome false lower) poles e = let z : _≡_ {A = ℕ} 0 1 = cc in absurd (omega arith)
-private-solved t m lines point (outcome true lower) poles e =
-    go (joined lines (λ r. substituteSymmetricBand (t .degree) m lower (rightHand t m (point r))))
-    (length-joined lines (3 * m) (λ r. substituteSymmetricBand (t .degree) m lower (rightHand t m (point r))) (λ r h. length-substituted (t .degree) m lower (rightHand t m (point r)) ∙ length-right t m (point r)))
-    (allBelow (length (joined lines (λ r. substituteSymmetricBand (t .degree) m lower (rightHand t m (point r))))) (λ i. isFinite (at (joined lines (λ r. substituteSymmetricBand (t .degree) m lower (rightHand t m (point r)))) i)))
-    e
-  where
-    go : (p : List Float) → length p ≡ lines * (3 * m) → (b : Bool) → cond b (some p) none ≡ some poles → length poles ≡ lines * (3 * m)
-    go p l true q = let r : p ≡ poles = cc in rw (← r) l
-    go p l false q = let z : _≡_ {A = ℕ} 0 1 = cc in absurd (omega arith)
+solved-long t m lines point (outcome false lower) poles e = let z : _≡_ {A = ℕ} 0 1 = cc in absurd (omega arith)
+solved-long t m lines point (outcome true lower) poles e =
+    let line : ℕ → List Float = λ r. substituteSymmetricBand (t .degree) m lower (rightHand t m (point r)) in
+    let all : List Float = joined lines line in
+    sym (ap length (when-some (allBelow (length all) (λ i. isFinite (at all i))) all poles e))
+    ∙ length-joined lines (3 * m) line (λ r h. length-substituted (t .degree) m lower (rightHand t m (point r)) ∙ length-right t m (point r))
 
 pub length-solved : (t : BasisTable) (m lines : ℕ) (point : ℕ → ℕ → Point) (poles : List Float) → leastSquares t m lines point ≡ some poles → length poles ≡ lines * (3 * m)
 unfolding leastSquares
-length-solved t m lines point poles e = private-solved t m lines point _ poles e
+length-solved t m lines point poles e = solved-long t m lines point _ poles e
 
 -- ---- a fit on given knots
 pub record IsFit (d : Direction) (flat : List Float) (f : Candidate) : Type 0 where

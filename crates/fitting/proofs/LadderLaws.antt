@@ -1,6 +1,6 @@
 -- Demand 3 of what a ladder call hands out follows from the rest of its contract, whatever the program. Assumes nothing.
 use mathlib.Core.Path.{_≡_, refl, sym, _∙_, ap, subst}
-use mathlib.Core.Bool.{Bool, true, false, cond}
+use mathlib.Core.Bool.{true}
 use mathlib.Core.List.{List}
 use mathlib.Core.Option.{Option, none, some}
 use Prim.Native.Nat.{ℕ, _+_, _-_, _*_, _≤_}
@@ -8,7 +8,6 @@ use native.Mathlib.Omega.{arith}
 use lib.ListN.{length, take}
 use lib.Ieee.{Float, le}
 use Rattle.places.specs.Places.{laid, someBelow}
-use Rattle.places.proofs.PlaceLaws.{length-listOf}
 use Rattle.geometry.specs.declared.Point.{Point}
 use Rattle.geometry.specs.Doubles.{_⊗_, _⊘_, one, at, largest}
 use Rattle.geometry.specs.Points.{pointAt}
@@ -18,6 +17,7 @@ use Rattle.bspline.specs.declared.Verdict.{Verdict}
 use Rattle.bspline.specs.declared.Verdict.the-variants.{Pass, Stop}
 use Rattle.knots.specs.declared.Spacing.{Spacing}
 use Rattle.knots.specs.Parameters.{confusion, chords, stepSums, fromZeroToOne, pointParameters}
+use Rattle.knots.proofs.ParameterLaws.{unless-some, length-zero-to-one}
 use Rattle.tables.specs.BasisTable.{basisTable}
 use Rattle.tables.specs.Deviations.{ladderDistances}
 use Rattle.tables.specs.Directions.{Direction, ladder}
@@ -38,16 +38,12 @@ use Rattle.fitting.proofs.HandedLaws.{From, taken, spread-from, refined
 
 -- as many parameters as points
 pub params-long : (v : Spacing) (n : ℕ) (point : ℕ → Point) (params : List Float) → pointParameters v n point ≡ some params → length params ≡ n
-unfolding pointParameters fromZeroToOne
+unfolding pointParameters
 params-long v n point params e =
-    go (someBelow (n - 1) (λ k. le (at (chords n point) k) confusion))
-    (fromZeroToOne n (λ k. at (stepSums v n (chords n point)) k ⊗ (one ⊘ at (stepSums v n (chords n point)) (n - 1))))
-    (length-listOf n _)
-    e
-  where
-    go : (b : Bool) (x : List Float) → length x ≡ n → cond b none (some x) ≡ some params → length params ≡ n
-    go true x l q = let z : _≡_ {A = ℕ} 0 1 = cc in absurd (omega arith)
-    go false x l q = let r : x ≡ params = cc in rw (← r) l
+    let ds : List Float = chords n point in
+    let sums : List Float = stepSums v n ds in
+    let g : ℕ → Float = λ k. at sums k ⊗ (one ⊘ at sums (n - 1)) in
+    sym (ap length (unless-some (someBelow (n - 1) (λ k. le (at ds k) confusion)) (fromZeroToOne n g) params e)) ∙ length-zero-to-one n g
 
 -- ---- from the mark that is handed back to the fit behind it
 pub refined-mark : (a : Marked) (x : Float) → markOf a ≡ Refined x → (f : Candidate) × (a ≡ refined f)

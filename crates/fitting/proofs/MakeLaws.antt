@@ -14,7 +14,7 @@ use Rattle.tables.specs.Directions.{Direction, ladder}
 use Rattle.tables.specs.Deviations.{unreadable}
 use Rattle.tables.specs.Layout.{Kept}
 use Rattle.tables.specs.Measures.{measured}
-use Rattle.tables.proofs.KeptLaws.{kept-wider, kept-then}
+use Rattle.tables.proofs.KeptLaws.{kept-then}
 use Rattle.fitting.specs.declared.Job.{Job}
 use Rattle.fitting.specs.declared.Mark.{Mark}
 use Rattle.fitting.specs.declared.Mark.the-variants.{Refined, Spread, Interpolated, Chosen}
@@ -31,7 +31,7 @@ use Rattle.fitting.specs.Marks.{largestDeviation}
 use Rattle.fitting.specs.Ladders.{Result, refused, accepted, chosenOr, fitBy}
 use Rattle.fitting.specs.Jobs.{HasJob, HasKnots, directionOf, candidateIn, attempted, refinedIn, spreadIn, AttemptsSpread, PassesThrough, Reaches, RefinesWithin, SpreadsBelow}
 use Rattle.fitting.specs.Runs.{markedAs, standingIn, madeIn, Makes}
-use Rattle.fitting.proofs.AttemptLaws.{most-knots, params-long, met, direction-kept}
+use Rattle.fitting.proofs.AttemptLaws.{most-knots, params-long, wider, met, direction-kept}
 
 module _ {j : Job} {points w w′ : List Float} {index index′ : List ℕ} where
   pub fails : {fit : Result} (c : Refusal) → fit ≡ refused c → length index′ ≡ length index → Kept (j .flat) (j .fresh + j .table .count) w w′ → Makes j points fit w w′ index index′ (Fails c)
@@ -72,23 +72,20 @@ module _ {j : Job} {points w w′ : List Float} {index index′ : List ℕ} wher
       record { answer = e ∙ x .answer; most = x .most; unread = x .unread; few = x .few; firsts = x .firsts ∙ f; kept = kept-then (j .flat) (j .fresh + j .table .count) w₀ w w′ k (x .kept) }
 
 module _ {j : Job} {points w : List Float} {index : List ℕ} (has : HasJob j points w index) where
-  wider : (w′ : List Float) → Kept (j .flat) (j .deviations + j .table .count) w w′ → Kept (j .flat) (j .fresh + j .table .count) w w′
-  wider w′ k = kept-wider (j .flat) (j .deviations + j .table .count) (j .flat) (j .fresh + j .table .count) w w′ (omega arith) (omega (arith, has .deviations-in)) k
-
   -- ---- through the points
   pub made-through : {w′ : List Float} {index′ : List ℕ} {y : Measured} → PassesThrough j points w w′ index index′ y
       → Makes j points (fitBy Interpolate (directionOf j points w)) w w′ index index′ (Stands (record { mark = Interpolated (y .largest); flat = j .table .count + j .table .degree + 1; unreadable = y .unreadable }))
   unfolding fitBy markedAs largestDeviation directionOf ladder
   made-through {w′} {index′} {y} x =
       stands (Interpolated (y .largest)) (j .table .count + j .table .degree + 1) y (ap (λ (f : Candidate). accepted (interpolated f)) (sym (x .fit))) refl
-      (met (most-knots j (has .under)) (x .measures ∙ ap (λ (f : Candidate). measured (f .distances)) (sym (x .fit))) (x .firsts) (wider w′ (x .kept)))
+      (met (most-knots j (has .under)) (x .measures ∙ ap (λ (f : Candidate). measured (f .distances)) (sym (x .fit))) (x .firsts) (wider j points w index has w w′ (x .kept)))
 
   -- ---- with a chosen pole count
   module _ {m : ℕ} {w′ : List Float} {index′ : List ℕ} {r : Attempt} (x : AttemptsSpread j points m w w′ index index′ r) where
     pub chosen-unfitted : r ≡ Unfitted → Makes j points (fitBy (Approximate m) (directionOf j points w)) w w′ index index′ (Fails PoleCountMismatch)
     unfolding fitBy chosenOr attempted directionOf ladder
     chosen-unfitted e =
-        fails PoleCountMismatch (ap (chosenOr PoleCountMismatch) (x .answer ∙ ap (λ (a : Attempt). attempted a (candidateIn j points (m + j .table .degree + 1) w′)) e)) (x .firsts) (wider w′ (x .kept))
+        fails PoleCountMismatch (ap (chosenOr PoleCountMismatch) (x .answer ∙ ap (λ (a : Attempt). attempted a (candidateIn j points (m + j .table .degree + 1) w′)) e)) (x .firsts) (wider j points w index has w w′ (x .kept))
 
     pub chosen-fitting : (y : Measured) → r ≡ Fitting y → HasKnots j (m + j .table .degree + 1)
         → Makes j points (fitBy (Approximate m) (directionOf j points w)) w w′ index index′ (Stands (record { mark = Chosen (y .largest); flat = m + j .table .degree + 1; unreadable = y .unreadable }))
@@ -96,7 +93,7 @@ module _ {j : Job} {points w : List Float} {index : List ℕ} (has : HasJob j po
     chosen-fitting y e h =
         stands (Chosen (y .largest)) (m + j .table .degree + 1) y
         (ap (chosenOr PoleCountMismatch) (x .answer ∙ ap (λ (a : Attempt). attempted a (candidateIn j points (m + j .table .degree + 1) w′)) e)) refl
-        (met h (x .measures y e) (x .firsts) (wider w′ (x .kept)))
+        (met h (x .measures y e) (x .firsts) (wider j points w index has w w′ (x .kept)))
 
   -- ---- by the spread search
   module _ {t : Float} {w₁ : List Float} {index₁ : List ℕ} {r : Reached} (x : SpreadsBelow j points t (j .table .count) w w₁ index index₁ r) where

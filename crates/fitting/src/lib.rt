@@ -8,7 +8,7 @@ pub mod output;
 pub mod refining;
 
 ghost use mathlib.Core.Path.{_≡_};
-ghost use Rattle.fitting.specs.Marks.{largestDeviation};
+ghost use Rattle.fitting.specs.Marks.{largestDeviation, markNumber};
 use bspline::Refusal;
 use tables::Data;
 use tables::Measured;
@@ -32,6 +32,18 @@ impl Mark {
             Mark::Spread(x) => x,
             Mark::Interpolated(x) => x,
             Mark::Chosen(x) => x,
+        }
+    }
+
+    // Document 01's number of the mark.
+    pub fn kind(self) -> usize
+        ensures { λ r. ⌜ r ≡ markNumber self ⌝ }
+    {
+        match self {
+            Mark::Refined(_) => 1,
+            Mark::Spread(_) => 2,
+            Mark::Interpolated(_) => 3,
+            Mark::Chosen(_) => 4,
         }
     }
 }

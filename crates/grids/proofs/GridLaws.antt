@@ -1,6 +1,6 @@
 -- Demand 3 along u of what a grid call hands out follows from the rest of its contract, whatever the program. Assumes nothing.
 use mathlib.Core.Path.{_≡_, refl, sym, _∙_, ap, subst}
-use mathlib.Core.Bool.{Bool, true, false, cond, _||_}
+use mathlib.Core.Bool.{true, _||_}
 use mathlib.Core.List.{List}
 use mathlib.Core.Option.{Option, none, some}
 use Prim.Native.Nat.{ℕ, _+_, _-_, _*_, _≤_}
@@ -10,7 +10,6 @@ use lib.Dec.{eqb}
 use lib.ListN.{length, take}
 use lib.Ieee.{Float, le}
 use Rattle.places.specs.Places.{laid, someBelow}
-use Rattle.places.proofs.PlaceLaws.{length-listOf}
 use Rattle.geometry.specs.declared.Point.{Point}
 use Rattle.geometry.specs.Doubles.{_⊗_, _⊘_, one, double, at}
 use Rattle.bspline.specs.declared.Refusal.{Refusal}
@@ -18,8 +17,9 @@ use Rattle.bspline.specs.declared.Refusal.the-variants.{ConfusedPoints}
 use Rattle.bspline.specs.declared.Verdict.{Verdict}
 use Rattle.bspline.specs.declared.Verdict.the-variants.{Pass, Stop}
 use Rattle.knots.specs.declared.Spacing.{Spacing}
-use Rattle.knots.specs.Parameters.{addedLines, fromZeroToOne, sharedParameters}
+use Rattle.knots.specs.Parameters.{Lines, addedLines, fromZeroToOne, sharedParameters}
 use Rattle.knots.specs.Knots.{averagedKnot, averagedKnots}
+use Rattle.knots.proofs.ParameterLaws.{unless-some, length-zero-to-one}
 use Rattle.tables.specs.BasisTable.{basisTable}
 use Rattle.tables.specs.Deviations.{gridDistances}
 use Rattle.tables.specs.Directions.{Direction, gridRows, gridColumns, transposed}
@@ -35,7 +35,7 @@ use Rattle.grids.specs.declared.GridFit.{GridFit}
 use Rattle.grids.specs.declared.GridAnswer.{GridAnswer}
 use Rattle.grids.specs.declared.GridAnswer.the-variants.{Fitted, Refused}
 use Rattle.grids.specs.declared.Call.the-variants.{ApproximateWithin}
-use Rattle.grids.specs.Grids.{Grid, GridLent, GridResult, gridRefused, gridRoomOf, gridChecks, GridShaped, GridRoomy, uParameters, vParameters, alongV, alongU, rowShare, rowsWithin, fitGridBy, countsVerdict, gridChecked, gridFitWith, gridFit, gridResultOf, gridAnswerOf, surfacePoles, gridHanded, GridCall, GridKept, ApproximatesGridWithin}
+use Rattle.grids.specs.Grids.{Grid, GridLent, GridResult, gridRoomOf, gridChecks, GridShaped, GridRoomy, uParameters, vParameters, alongV, alongU, rowShare, rowsWithin, fitGridBy, countsVerdict, gridChecked, gridFitWith, gridFit, gridResultOf, gridAnswerOf, surfacePoles, gridHanded, GridCall, GridKept, ApproximatesGridWithin}
 use Rattle.grids.proofs.SurfaceLaws.{length-transposed}
 use Rattle.grids.proofs.GridCheckLaws.{Degrees, grid-gives, degrees-under}
 
@@ -93,17 +93,12 @@ fewest-sound d lawful t h = go (fitWithRefinedKnots d t) refl
 
 -- ---- lengths
 pub shared-long : (v : Spacing) (lines n : ℕ) (point : ℕ → ℕ → Point) (params : List Float) → sharedParameters v lines n point ≡ some params → length params ≡ n
-unfolding sharedParameters fromZeroToOne
+unfolding sharedParameters
 shared-long v lines n point params e =
-    go
-    (eqb (addedLines v lines n point .used) 0 || someBelow (n - 1) (λ k. le (at (fromZeroToOne n (λ j. at (addedLines v lines n point .sums) j ⊗ (one ⊘ double (addedLines v lines n point .used)))) (k + 1)) (at (fromZeroToOne n (λ j. at (addedLines v lines n point .sums) j ⊗ (one ⊘ double (addedLines v lines n point .used)))) k)))
-    (fromZeroToOne n (λ j. at (addedLines v lines n point .sums) j ⊗ (one ⊘ double (addedLines v lines n point .used))))
-    (length-listOf n _)
-    e
-  where
-    go : (b : Bool) (x : List Float) → length x ≡ n → cond b none (some x) ≡ some params → length params ≡ n
-    go true x l q = let z : _≡_ {A = ℕ} 0 1 = cc in absurd (omega arith)
-    go false x l q = let r : x ≡ params = cc in rw (← r) l
+    let added : Lines = addedLines v lines n point in
+    let g : ℕ → Float = λ k. at (added .sums) k ⊗ (one ⊘ double (added .used)) in
+    let all : List Float = fromZeroToOne n g in
+    sym (ap length (unless-some (eqb (added .used) 0 || someBelow (n - 1) (λ k. le (at all (k + 1)) (at all k))) all params e)) ∙ length-zero-to-one n g
 
 -- `GridKept`, over the direction and the distances that it speaks of
 record GridKeptBy (d : Direction) (distances : GridFit → List Float) (t : Float) (r : GridAnswer) : Type 0 where
@@ -215,10 +210,6 @@ module _ (g : Grid) (t : Float) (l l′ : GridLent) (us vs : List Float) (n : le
 grid-stopped : (g : Grid) (c : Refusal) (x : GridResult) (r : GridAnswer) → r ≡ gridAnswerOf g (gridChecked (Stop c) x) → r ≡ Refused c
 unfolding gridChecked gridAnswerOf
 grid-stopped g c x r e = e
-
-grid-refused : (g : Grid) (c : Refusal) (r : GridAnswer) → r ≡ gridAnswerOf g (gridChecked Pass (gridRefused c)) → r ≡ Refused c
-unfolding gridChecked gridAnswerOf
-grid-refused g c r e = e
 
 refused-kept : (g : Grid) (t : Float) (l′ : GridLent) (r : GridAnswer) (c : Refusal) → r ≡ Refused c → GridKept g t l′ r
 refused-kept g t l′ r c e =

@@ -40,11 +40,12 @@ module _ (call : Call) (s : List Float) (degree : ℕ) (v : Spacing) where
   unfolding resultOf checked
   stopped-number c e = ap (λ (w : Verdict). resultNumber (checked w (ladderFit v s degree (fitBy call)))) e
 
-  private-short : (w : Verdict) → ladderChecks call s degree nothing ≡ w → (l : Lent) (largest : List Float) (counts : List ℕ) (r : ℕ) → r ≡ resultNumber (resultOf call s degree v nothing)
+  -- judged with nothing lent, the call is refused and touches nothing
+  refused-untouched : (w : Verdict) → ladderChecks call s degree nothing ≡ w → (l : Lent) (largest : List Float) (counts : List ℕ) (r : ℕ) → r ≡ resultNumber (resultOf call s degree v nothing)
       → ToldBy nothing call s degree v l l largest largest counts counts r
   unfolding resultOf checked answerOf handed cleared
-  private-short Pass e l largest counts r n = absurd (stops e)
-  private-short (Stop c) e l largest counts r n =
+  refused-untouched Pass e l largest counts r n = absurd (stops e)
+  refused-untouched (Stop c) e l largest counts r n =
       let q : resultOf call s degree v nothing ≡ refused c = ap (λ (w : Verdict). checked w (ladderFit v s degree (fitBy call))) e in
       record {
         number = n;
@@ -59,24 +60,20 @@ module _ (call : Call) (s : List Float) (degree : ℕ) (v : Spacing) where
   pub told-short : (l : Lent) (largest : List Float) (counts : List ℕ) (r : ℕ) → tellable largest counts ≡ false → r ≡ resultNumber (resultOf call s degree v nothing)
       → Told call s degree v l l largest largest counts counts r
   told-short l largest counts r e n =
-      record {
-        told-by = subst (λ (b : Bool). ToldBy (cond b l nothing) call s degree v l l largest largest counts counts r) (sym e)
-            (private-short (ladderChecks call s degree nothing) refl l largest counts r n);
-      }
+      subst (λ (b : Bool). ToldBy (cond b l nothing) call s degree v l l largest largest counts counts r) (sym e)
+      (refused-untouched (ladderChecks call s degree nothing) refl l largest counts r n)
 
   -- room
   pub told-room : (l l′ : Lent) (largest largest′ : List Float) (counts counts′ : List ℕ) (a : Answer) (r : ℕ) → tellable largest counts ≡ true → LadderCall call s degree v l l′ a
       → r ≡ answerNumber a → largest′ ≡ toldLargest a largest → counts′ ≡ toldCounts a counts → Told call s degree v l l′ largest largest′ counts counts′ r
   told-room l l′ largest largest′ counts counts′ a r e x n p q =
       let h = x .hands in
-      record {
-        told-by = subst (λ (b : Bool). ToldBy (cond b l nothing) call s degree v l l′ largest largest′ counts counts′ r) (sym e)
-            (record {
-              number = n ∙ x .number;
-              hands = record { answer = refl; poles = h .poles; flat = h .flat; knots = h .knots; mults = h .mults };
-              work = x .work;
-              index = x .index;
-              most = p ∙ ap (λ (y : Answer). toldLargest y largest) (h .answer);
-              told = q ∙ ap (λ (y : Answer). toldCounts y counts) (h .answer);
-            });
-      }
+      subst (λ (b : Bool). ToldBy (cond b l nothing) call s degree v l l′ largest largest′ counts counts′ r) (sym e)
+      (record {
+        number = n ∙ x .number;
+        hands = record { answer = refl; poles = h .poles; flat = h .flat; knots = h .knots; mults = h .mults };
+        work = x .work;
+        index = x .index;
+        most = p ∙ ap (λ (y : Answer). toldLargest y largest) (h .answer);
+        told = q ∙ ap (λ (y : Answer). toldCounts y counts) (h .answer);
+      })

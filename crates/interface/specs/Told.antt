@@ -53,8 +53,8 @@ pub record ToldBy (m : Lent) (call : Call) (s : List Float) (degree : ℕ) (v : 
   pub told : counts′ ≡ toldCounts (answerOf degree (resultOf call s degree v m)) counts
 
 -- The contract of a ladder call for C.
-pub record Told (call : Call) (s : List Float) (degree : ℕ) (v : Spacing) (l l′ : Lent) (largest largest′ : List Float) (counts counts′ : List ℕ) (r : ℕ) : Type 0 where
-  pub told-by : ToldBy (judged l largest counts) call s degree v l l′ largest largest′ counts counts′ r
+abbrev pub Told : Call → List Float → ℕ → Spacing → Lent → Lent → List Float → List Float → List ℕ → List ℕ → ℕ → Type 0
+Told call s degree v l l′ largest largest′ counts counts′ r = ToldBy (judged l largest counts) call s degree v l l′ largest largest′ counts counts′ r
 
 -- ---- the reader
 

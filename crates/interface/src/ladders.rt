@@ -3,13 +3,11 @@ ghost use mathlib.Core.Path.{_≡_};
 ghost use Prim.Native.Nat.{_≤_};
 ghost use lib.ListN.{length};
 ghost use Rattle.fitting.specs.declared.Call.the-variants.{Interpolate, Approximate, ApproximateWithin, SearchSpread};
-ghost use Rattle.fitting.specs.Marks.{markNumber};
 ghost use Rattle.fitting.specs.Ladders.{lent, answerNumber, resultNumber, resultOf};
 ghost use Rattle.interface.specs.Told.{spacingOf, toldLargest, toldCounts, nothing, Told};
 use bspline::Verdict;
 use fitting::Answer;
 use fitting::Call;
-use fitting::Mark;
 use fitting::Room;
 use knots::Spacing;
 
@@ -20,17 +18,6 @@ fn spacing_of(number: usize) -> Spacing
         return Spacing::Chordal;
     }
     Spacing::Centripetal
-}
-
-fn mark_number(mark: Mark) -> usize
-    ensures { λ r. ⌜ r ≡ markNumber mark ⌝ }
-{
-    match mark {
-        Mark::Refined(_) => 1,
-        Mark::Spread(_) => 2,
-        Mark::Interpolated(_) => 3,
-        Mark::Chosen(_) => 4,
-    }
 }
 
 // The number of an answer, with the mark and the counts of a fit in the lent slices.
@@ -45,7 +32,7 @@ fn tell(answer: Answer, largest: &mut [f64], counts: &mut [usize]) -> u32
         Answer::Fitted(f) => {
             let mark = f.mark;
             largest[0] = mark.deviation();
-            counts[0] = mark_number(mark);
+            counts[0] = mark.kind();
             counts[1] = f.poles;
             counts[2] = f.knots;
             counts[3] = f.unreadable;

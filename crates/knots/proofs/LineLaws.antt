@@ -1,6 +1,6 @@
 -- The lines of a ladder and of a grid: their points, and the parameters that depend on nothing else. Assumes nothing.
 use mathlib.Core.Path.{_≡_, ap}
-use mathlib.Core.Bool.{Bool, true, false, cond, _||_}
+use mathlib.Core.Bool.{Bool, cond, _||_}
 use mathlib.Core.List.{List}
 use mathlib.Core.Option.{none, some}
 use Prim.Native.Nat.{ℕ, _+_, _-_, _*_, _^_, _<_, _≤_}
@@ -18,7 +18,7 @@ use Rattle.knots.specs.declared.Spacing.{Spacing}
 use Rattle.knots.specs.Parameters.{confusion, chords, stepSums, fromZeroToOne, pointParameters, Lines, addLine, addedLines, sharedParameters}
 use Rattle.knots.specs.Lines.{lineOf, linesOf}
 use Rattle.knots.specs.Calls.{HasLine, HasLines}
-use Rattle.knots.proofs.ParameterLaws.{length-zero-to-one, zero-to-one-ends}
+use Rattle.knots.proofs.ParameterLaws.{unless-some, length-zero-to-one, zero-to-one-ends}
 
 -- ---- only the points below the count matter
 
@@ -69,9 +69,8 @@ abbrev pub FromZeroToOne : ℕ → List Float → Type 0
 FromZeroToOne n params = (length params ≡ n) × (at params 0 ≡ nought) × (at params (n - 1) ≡ one)
 
 ends : (n : ℕ) (g : ℕ → Float) (b : Bool) (params : List Float) → 2 ≤ n → cond b none (some (fromZeroToOne n g)) ≡ some params → FromZeroToOne n params
-ends n g true params h e = let z : _≡_ {A = ℕ} 0 1 = cc in absurd (omega arith)
-ends n g false params h e =
-    let same : fromZeroToOne n g ≡ params = cc in
+ends n g b params h e =
+    let same = unless-some b (fromZeroToOne n g) params e in
     let z = zero-to-one-ends n g h in
     rw (← same) (length-zero-to-one n g, z .0, z .1)
 

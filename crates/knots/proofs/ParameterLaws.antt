@@ -3,6 +3,7 @@ use mathlib.Core.Path.{_≡_, refl, sym, _∙_, ap, subst}
 use mathlib.Core.Bool.{Bool, true, false, cond, _||_}
 use mathlib.Core.List.{List, [], _++_}
 use mathlib.Core.Logic.{⊎-elim}
+use mathlib.Core.Option.{none, some}
 use Prim.Native.Nat.{ℕ, zero, suc, _+_, _-_, _*_, _^_, _<_, _≤_}
 use native.Mathlib.Nat.{eq-or-lt-of-le, mul-le-mul-left, ne-of-lt, ne-of-gt}
 use native.Mathlib.Numerals.{add-one}
@@ -23,6 +24,15 @@ use Rattle.knots.specs.declared.parameters.LineSums.{LineSums}
 use Rattle.knots.specs.Parameters.{confusion, chords, stepOf, stepSums, runningSums, fromZeroToOne, pointParameters}
 use Rattle.knots.specs.Lines.{lineOf}
 use Rattle.knots.specs.Calls.{lineSums, Found}
+
+-- a value that a test may leave out: where there is one, it is that value
+pub unless-some : {A : Type 0} (b : Bool) (x y : A) → cond b none (some x) ≡ some y → x ≡ y
+unless-some true x y e = let z : _≡_ {A = ℕ} 0 1 = cc in absurd (omega arith)
+unless-some false x y e = cc
+
+pub when-some : {A : Type 0} (b : Bool) (x y : A) → cond b (some x) none ≡ some y → x ≡ y
+when-some true x y e = cc
+when-some false x y e = let z : _≡_ {A = ℕ} 0 1 = cc in absurd (omega arith)
 
 -- a small whole number is a double
 pub small-float : (n : ℕ) → n ≤ 2 ^ 53 → T (inFloat binary64 (pos n))

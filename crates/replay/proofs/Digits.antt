@@ -6,7 +6,8 @@ use native.Mathlib.Nat.{pow-suc, pow-le-pow-right, mul-le-mul-right}
 use native.Mathlib.Numerals.{add-one}
 use native.Mathlib.Omega.{arith}
 use lib.ListN.{getD}
-use Rattle.replay.specs.Text.{digitOf, valueOf}
+use Rattle.card_text.specs.Text.{digitOf}
+use Rattle.replay.specs.Text.{valueOf}
 
 -- a digit more
 pub more-digits : (b k v d : ℕ) → v < b ^ k → d < b → v * b + d < b ^ suc k

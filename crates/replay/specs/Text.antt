@@ -1,19 +1,14 @@
 -- The text of a list of words. Definitions only.
-use Prim.Native.Nat.{ℕ, zero, suc, _+_, _-_, _*_, _≤_, _<_}
+use Prim.Native.Nat.{ℕ, zero, suc, _+_, _*_, _≤_, _<_}
 use mathlib.Core.Path.{_≡_}
-use mathlib.Core.Bool.{cond}
 use mathlib.Core.List.{List}
-use lib.Dec.{ltb}
 use lib.ListN.{length, getD}
 use Rattle.places.specs.Places.{laid}
+use Rattle.card_text.specs.Text.{digitOf}
 use Rattle.replay.specs.declared.lines.Word.{Word}
 use Rattle.replay.specs.declared.lines.Word.the-variants as word
 use Rattle.replay.specs.declared.lines.Lines.{Lines}
 use Rattle.replay.specs.declared.lines.Lines.the-variants as lines
-
--- the value of a lowercase hexadecimal digit, and 16 for another byte
-unfoldable pub digitOf : ℕ → ℕ
-digitOf b = cond (ltb b 48) 16 (cond (ltb b 58) (b - 48) (cond (ltb b 97) 16 (cond (ltb b 103) (b - 87) 16)))
 
 -- the number that the k digits from a on write
 unfoldable pub valueOf : List ℕ → ℕ → ℕ → ℕ

@@ -2,14 +2,12 @@
 // then the flat knots, the distinct knots, the multiplicities and the poles.
 ghost use mathlib.Core.Path.{_≡_};
 ghost use lib.ListN.{length};
-ghost use Rattle.fitting.specs.Marks.{markNumber};
 ghost use Rattle.replay.specs.Compared.{refusedWith, sameTold, sameValues, sameFit};
 ghost use Rattle.replay.specs.Listed.{listedAt, Within, Held};
 use crate::doubles::same_doubles;
 use crate::doubles::same_numbers;
 use fitting::Answer;
 use fitting::Fit;
-use fitting::Mark;
 
 // A fit as the list has it. Its values start at `values`, and after them stands the next case.
 pub struct ListedFit {
@@ -68,17 +66,6 @@ pub fn listed_at(words: &[u64], start: usize, degree: usize) -> Listed
     })
 }
 
-fn mark_number(mark: Mark) -> u64
-    ensures { λ r. ⌜ r ≡ markNumber mark ⌝ }
-{
-    match mark {
-        Mark::Refined(_) => 1,
-        Mark::Spread(_) => 2,
-        Mark::Interpolated(_) => 3,
-        Mark::Chosen(_) => 4,
-    }
-}
-
 // Whether an answer is the refusal of a number.
 pub fn refused_with(answer: Answer, number: u64) -> bool
     ensures { λ r. ⌜ r ≡ refusedWith answer number ⌝ }
@@ -94,7 +81,7 @@ fn same_told(fit: Fit, listed: ListedFit) -> bool
     ensures { λ r. ⌜ r ≡ sameTold fit listed ⌝ }
 {
     let mark = fit.mark;
-    if mark_number(mark) != listed.mark {
+    if mark.kind() as u64 != listed.mark {
         return false;
     }
     if card_text::to_word(mark.deviation()) != listed.largest {

@@ -1,8 +1,7 @@
 // The list's lines: a word each, as 16 lowercase hexadecimal digits and a newline.
-ghost use mathlib.Core.Path.{_≡_};
 ghost use Prim.Native.Nat.{_+_, _≤_};
 ghost use lib.ListN.{length};
-ghost use Rattle.replay.specs.Text.{digitOf, ReadAt, ReadAs};
+ghost use Rattle.replay.specs.Text.{ReadAt, ReadAs};
 
 pub enum Word {
     Is(u64),
@@ -15,23 +14,6 @@ pub enum Lines {
     Damaged,
 }
 
-// The value of a digit, and 16 for any other byte.
-fn digit(b: u8) -> u64
-    ensures { λ r. ⌜ r ≡ digitOf b ⌝ }
-{
-    if b < 48 {
-        16
-    } else if b < 58 {
-        (b - 48) as u64
-    } else if b < 97 {
-        16
-    } else if b < 103 {
-        (b - 87) as u64
-    } else {
-        16
-    }
-}
-
 // The word of the line that starts at a place.
 fn word_at(text: &[u8], start: usize) -> Word
     requires { ⌜ start + 17 ≤ length (now text) ⌝ }
@@ -39,7 +21,7 @@ fn word_at(text: &[u8], start: usize) -> Word
 {
     let mut w = 0u64;
     for k in 0..16 {
-        let d = digit(text[start + k]);
+        let d = card_text::digit(text[start + k]);
         if d > 15 {
             return Word::Damaged;
         }

@@ -2,7 +2,7 @@
 ghost use mathlib.Core.Path.{_≡_};
 ghost use Prim.Native.Nat.{_≤_};
 ghost use lib.ListN.{length, take, getD};
-ghost use Rattle.fitting.specs.Ladders.{lent, LadderCall};
+ghost use Rattle.fitting.specs.Ladders.{lent};
 ghost use Rattle.replay.specs.Listed.{listedAt, Placed};
 ghost use Rattle.replay.specs.Compared.{turnOf, compared};
 ghost use Rattle.replay.specs.Runs.{capped as cappedAt, needed, Fits, Lending, Ran, RanOn, TurnAt, firstOf, TalliedAs};
@@ -10,9 +10,7 @@ use crate::answers::Listed;
 use crate::cases::Case;
 use crate::cases::Found;
 use fitting::Answer;
-use fitting::Call;
 use fitting::Room;
-use knots::Spacing;
 
 // One case: whether the answers are the same, with the place of the next case.
 pub enum Turn {
@@ -51,74 +49,6 @@ fn lengths(n: usize, degree: usize, shorter: usize) -> Room
         mults: flat,
         work: 4 * (p * n) + 16 * n + 64 - shorter,
         index: 4 * n,
-    }
-}
-
-// The answer of a call.
-fn answer_of(
-    call: Call,
-    points: &[f64],
-    degree: usize,
-    spacing: Spacing,
-    poles: &mut [f64],
-    flat: &mut [f64],
-    knots: &mut [f64],
-    mults: &mut [u32],
-    work: &mut [f64],
-    index: &mut [usize],
-) -> Answer
-    ensures { λ r. ⌜ LadderCall call (now (points .entry)) degree spacing
-        (lent (now (poles .entry)) (now (flat .entry)) (now (knots .entry)) (now (mults .entry)) (now (work .entry)) (now (index .entry)))
-        (lent (now (poles .exit)) (now (flat .exit)) (now (knots .exit)) (now (mults .exit)) (now (work .exit)) (now (index .exit))) r ⌝ }
-{
-    match call {
-        Call::Interpolate => fitting::ladders::interpolate(
-            points,
-            degree,
-            spacing,
-            poles,
-            flat,
-            knots,
-            mults,
-            work,
-            index,
-        ),
-        Call::Approximate(count) => fitting::ladders::approximate(
-            points,
-            degree,
-            count,
-            spacing,
-            poles,
-            flat,
-            knots,
-            mults,
-            work,
-            index,
-        ),
-        Call::ApproximateWithin(tolerance) => fitting::ladders::approximate_within(
-            points,
-            degree,
-            tolerance,
-            spacing,
-            poles,
-            flat,
-            knots,
-            mults,
-            work,
-            index,
-        ),
-        Call::SearchSpread(tolerance) => fitting::ladders::search_spread(
-            points,
-            degree,
-            tolerance,
-            spacing,
-            poles,
-            flat,
-            knots,
-            mults,
-            work,
-            index,
-        ),
     }
 }
 
@@ -185,11 +115,11 @@ fn run_case(
     let call = case.call;
     let spacing = case.spacing;
     let degree = case.degree;
-    let answer = answer_of(
-        call,
+    let answer = fitting::ladders::fit_ladder(
         points,
         degree,
         spacing,
+        call,
         poles,
         flat,
         knots,

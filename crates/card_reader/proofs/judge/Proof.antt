@@ -31,8 +31,10 @@ returns c =
     let fed = c .before .before .before in
     let begun = fed .before .before in
     let start = begun .before .before .before in
-    rw (c .finish .ensures .0, fed .feed .ensures .1, fed .feed .ensures .0, begun .start .ensures)
-    (judged-right (now (start .args .text)) (now (start .args .points)) (start .pre))
+    let text = now (start .args .text) in
+    let old = now (start .args .points) in
+    let laid = rw (begun .start .ensures) at (fed .feed .ensures .1) in
+    (rw (c .finish .ensures .0, fed .feed .ensures .1, fed .feed .ensures .0, begun .start .ensures) (judged-right text old (start .pre)), laid)
 
 pub judge-spec : {M : Type 1} → statement M
 judge-spec = tie.close (tie.spec start-requires feed-requires finish-requires same-length returns)

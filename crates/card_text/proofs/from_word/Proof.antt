@@ -10,8 +10,6 @@ use lib.Ieee.Bits.{nanBits-above, nanBits-is}
 use borrow.Author.Needs.{needs}
 use Rattle.card_text.proofs.from_word.Statement.{statement}
 use Rattle.card_text.proofs.from_word.Tie as tie
-use Rattle.card_text.proofs.from_word.Reads as reads
-use Rattle.card_text.proofs.from_word.Lts as lts
 
 is-nan : (x : Float) → isNan x ≡ true → nan ≡ x
 unfolding isNan

@@ -7,10 +7,8 @@ use Rattle.geometry.proofs.DoubleLaws.{a-number}
 use borrow.Author.Needs.{needs}
 use Rattle.card_text.proofs.to_word.Statement.{statement}
 use Rattle.card_text.proofs.to_word.Tie as tie
-use Rattle.card_text.proofs.to_word.Reads as reads
-use Rattle.card_text.proofs.to_word.Lts as lts
 
-nan-word : 9221120237041090560 ≡ toBits binary64 nan
+nan-word : 0x7ff8_0000_0000_0000 ≡ toBits binary64 nan
 unfolding toBits
 nan-word = refl
 

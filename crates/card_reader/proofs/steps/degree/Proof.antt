@@ -8,7 +8,7 @@ use Rattle.card_reader.proofs.steps.degree.Statement.{statement}
 use Rattle.card_reader.proofs.steps.degree.Tie as tie
 use Rattle.card_reader.proofs.steps.degree.Reads as reads
 use Rattle.card_reader.proofs.steps.degree.Lts as lts
-use Rattle.card_reader.proofs.steps.digit.Reads as digit-reads
+use Rattle.card_text.proofs.digit.Reads as digit-reads
 
 returns : tie.Need-returns
 unfolding degreeNext

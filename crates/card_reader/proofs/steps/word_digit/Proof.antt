@@ -8,7 +8,7 @@ use Rattle.card_reader.proofs.steps.word_digit.Statement.{statement}
 use Rattle.card_reader.proofs.steps.word_digit.Tie as tie
 use Rattle.card_reader.proofs.steps.word_digit.Reads as reads
 use Rattle.card_reader.proofs.steps.word_digit.Lts as lts
-use Rattle.card_reader.proofs.steps.digit.Reads as digit-reads
+use Rattle.card_text.proofs.digit.Reads as digit-reads
 
 returns : tie.Need-returns
 unfolding wordNext

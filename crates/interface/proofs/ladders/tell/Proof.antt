@@ -10,7 +10,7 @@ use Rattle.interface.proofs.ladders.tell.Statement.{statement}
 use Rattle.interface.proofs.ladders.tell.Tie as tie
 use Rattle.bspline.proofs.Refusal.number.Reads as number-reads
 use Rattle.fitting.proofs.Mark.deviation.Reads as deviation-reads
-use Rattle.interface.proofs.ladders.mark_number.Reads as mark-number-reads
+use Rattle.fitting.proofs.Mark.kind.Reads as kind-reads
 
 enum-known-answer : tie.Need-enum-known-answer
 enum-known-answer c = search needs
@@ -27,8 +27,8 @@ deviation-requires c κs = search needs
 slice-write-largest : tie.Need-slice-write-largest
 slice-write-largest c = search needs
 
-mark-number-requires : tie.Need-mark-number-requires
-mark-number-requires c κs = search needs
+kind-requires : tie.Need-kind-requires
+kind-requires c κs = search needs
 
 slice-write-counts : tie.Need-slice-write-counts
 slice-write-counts c = search needs
@@ -37,13 +37,13 @@ slice-write-counts-2 : tie.Need-slice-write-counts-2
 slice-write-counts-2 c =
     let s = c .before .before .before .before .before .before .before in
     let a = s .args in
-    omega (arith, length-set (a .counts .now) 0 (c .mark-number .result), s .pre .1)
+    omega (arith, length-set (a .counts .now) 0 (c .kind .result), s .pre .1)
 
 slice-write-counts-3 : tie.Need-slice-write-counts-3
 slice-write-counts-3 c =
     let s = c .before .before .before .before .before .before .before in
     let a = s .args in
-    omega (arith, length-set (set (a .counts .now) 0 (c .mark-number .result)) 1 (c .before .before .before .answer2 .given .0 .0 .poles), length-set (a .counts .now) 0 (c .mark-number .result), s .pre .1)
+    omega (arith, length-set (set (a .counts .now) 0 (c .kind .result)) 1 (c .before .before .before .answer2 .given .0 .0 .poles), length-set (a .counts .now) 0 (c .kind .result), s .pre .1)
 
 slice-write-counts-4 : tie.Need-slice-write-counts-4
 slice-write-counts-4 c = search needs
@@ -71,7 +71,7 @@ returns-2 c =
     let a = s .args in
     let g = c .before .before .before .answer2 .given .1 in (
       sym (ap answerNumber g),
-      (rw (c .before .deviation .ensures) (sym (ap (λ (x : Answer). toldLargest x (a .largest .now)) g)), rw (c .mark-number .ensures) (sym (ap (λ (x : Answer). toldCounts x (a .counts .now)) g))),
+      (rw (c .before .deviation .ensures) (sym (ap (λ (x : Answer). toldLargest x (a .largest .now)) g)), rw (c .kind .ensures) (sym (ap (λ (x : Answer). toldCounts x (a .counts .now)) g))),
     )
 
 pub tell-spec : {M : Type 1} → statement M
@@ -83,7 +83,7 @@ tell-spec =
     enum-known-answer-2
     deviation-requires
     slice-write-largest
-    mark-number-requires
+    kind-requires
     slice-write-counts
     slice-write-counts-2
     slice-write-counts-3

@@ -8,7 +8,8 @@ use lib.ListN.{getD}
 use borrow.Author.Count.{below-more}
 use borrow.Author.Needs.{needs}
 use Rattle.replay.proofs.Digits.{more-digits, more-room, value-more, digit-below}
-use Rattle.replay.specs.Text.{digitOf, valueOf}
+use Rattle.card_text.specs.Text.{digitOf}
+use Rattle.replay.specs.Text.{valueOf}
 use Rattle.replay.proofs.lines.word_at.Statement.{statement}
 use Rattle.replay.proofs.lines.word_at.Tie as tie
 

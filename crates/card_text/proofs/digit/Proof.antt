@@ -1,11 +1,9 @@
 -- The byte lies in one of five ranges, and the definition asks the same tests. Assumes nothing.
 use borrow.Author.Tests.{lt-ltb, le-ltb}
-use Rattle.card_reader.specs.Reading.{digitOf}
+use Rattle.card_text.specs.Text.{digitOf}
 use borrow.Author.Needs.{needs}
-use Rattle.card_reader.proofs.steps.digit.Statement.{statement}
-use Rattle.card_reader.proofs.steps.digit.Tie as tie
-use Rattle.card_reader.proofs.steps.digit.Reads as reads
-use Rattle.card_reader.proofs.steps.digit.Lts as lts
+use Rattle.card_text.proofs.digit.Statement.{statement}
+use Rattle.card_text.proofs.digit.Tie as tie
 
 cast-result : tie.Need-cast-result
 cast-result c = search needs
