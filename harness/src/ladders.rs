@@ -4,9 +4,10 @@ use crate::Point3D;
 use crate::curve_math::bspline::KnotVector;
 use crate::curves::fitting::pieces;
 use crate::curves::{BSplineConstructionError as Error, BSplineCurve3D};
+use crate::guarded::Guarded;
 use crate::ours::{self, APPROXIMATE, INTERPOLATE, Lent, SEARCH, WITHIN};
 use crate::points;
-use crate::random::{Random, all_same, least_seconds, same};
+use crate::random::{Random, all_same, least_seconds};
 use std::collections::BTreeMap;
 use std::hint::black_box;
 use std::time::{Duration, Instant};
@@ -14,7 +15,7 @@ use std::time::{Duration, Instant};
 pub mod cards;
 
 const NAMES: [&str; 4] = ["interpolate", "approximate", "approximate_within", "search_spread"];
-const MARKS: [&str; 5] = ["", "refined", "spread", "interpolated", "chosen"];
+pub const MARKS: [&str; 5] = ["", "refined", "spread", "interpolated", "chosen"];
 
 /// One call: which of the four, what is handed in, and by how many places each lent slice is longer than needed.
 #[derive(Clone, Debug)]
@@ -100,7 +101,7 @@ impl Fit {
 type Answer = Result<Fit, u32>;
 
 /// Document 01's number of what the Rust answers.
-fn number(e: Error) -> u32 {
+pub fn number(e: Error) -> u32 {
     match e {
         Error::TooFewPoints => 1,
         Error::InvalidDegree => 2,
@@ -167,7 +168,7 @@ fn stepped(c: &Call, points: &[Point3D], params: &[f64]) -> Option<(usize, piece
 }
 
 /// Folded from 0, NaN passed over.
-fn fold(deviations: &[f64]) -> f64 {
+pub fn fold(deviations: &[f64]) -> f64 {
     deviations.iter().fold(0.0f64, |a, &d| a.max(d))
 }
 
@@ -206,88 +207,6 @@ fn answer(c: &Call) -> Answer {
 fn agree(fit: &Fit, curve: &BSplineCurve3D) -> bool {
     let knots = all_same(&fit.flat, &curve.flat) && all_same(&fit.knots, &curve.knots) && fit.mults == curve.mults;
     knots && all_same(&fit.poles, &ours::places(&curve.poles))
-}
-
-/// A place of a lent slice, as a word and made of one.
-trait Place: Copy + std::fmt::Debug {
-    fn word(self) -> u64;
-    fn of(word: u64) -> Self;
-    /// Equal, or two NaN.
-    fn same(self, other: Self) -> bool {
-        self.word() == other.word()
-    }
-}
-
-impl Place for f64 {
-    fn word(self) -> u64 {
-        self.to_bits()
-    }
-    fn of(word: u64) -> f64 {
-        f64::from_bits(word)
-    }
-    fn same(self, other: f64) -> bool {
-        same(self, other)
-    }
-}
-
-impl Place for u32 {
-    fn word(self) -> u64 {
-        self as u64
-    }
-    fn of(word: u64) -> u32 {
-        word as u32
-    }
-}
-
-impl Place for usize {
-    fn word(self) -> u64 {
-        self as u64
-    }
-    fn of(word: u64) -> usize {
-        word as usize
-    }
-}
-
-/// How many guard places stand before and behind a lent slice.
-const GUARDS: usize = 5;
-
-/// A slice to be lent between guard places, and what it held before the call.
-struct Guarded<T> {
-    now: Vec<T>,
-    before: Vec<T>,
-}
-
-impl<T: Place> Guarded<T> {
-    fn new(length: usize, place: impl Fn(usize) -> T) -> Self {
-        let guard = |k: usize| T::of(0xc0de_c0de_c0de_c0d0 + k as u64);
-        let mut before: Vec<T> = (0..GUARDS).map(guard).collect();
-        before.extend((0..length).map(place));
-        before.extend((0..GUARDS).map(guard));
-        Guarded { now: before.clone(), before }
-    }
-
-    /// Filled with values that tell the slice and the place.
-    fn filled(slice: usize, lengths: &[usize; 8]) -> Self {
-        Self::new(lengths[slice], |k| T::of(0x40f5_0000_0000_0000 | (slice << 24) as u64 | k as u64))
-    }
-
-    fn slice(&mut self) -> &mut [T] {
-        let end = self.now.len() - GUARDS;
-        &mut self.now[GUARDS..end]
-    }
-
-    /// The first place that is neither `wanted` nor, before and behind that, as before the call.
-    fn differs(&self, name: &str, wanted: &[T]) -> Option<String> {
-        let right = |k: usize| match wanted.get(k.wrapping_sub(GUARDS)) {
-            Some(&value) => (value, self.now[k].same(value)),
-            None => (self.before[k], self.now[k].word() == self.before[k].word()),
-        };
-        let k = (0..self.now.len()).find(|&k| !right(k).1)?;
-        let (now, value) = (self.now[k], right(k).0);
-        let place = k as i64 - GUARDS as i64;
-        let length = self.now.len() - 2 * GUARDS;
-        Some(format!("{name}, place {place} of {length}: {now:?} ({:016x}), not {value:?} ({:016x})", now.word(), value.word()))
-    }
 }
 
 /// What differs from the wanted answer after our call, if anything does.
@@ -359,7 +278,7 @@ fn size(random: &mut Random) -> usize {
 }
 
 /// A degree: mostly one that n points allow.
-fn degree(random: &mut Random, n: usize) -> usize {
+pub fn degree(random: &mut Random, n: usize) -> usize {
     let most = n.max(2) - 1;
     match random.below(20) {
         0 => *random.of(&[0, 26, 27, n, usize::MAX, usize::MAX / 2, (1 << 32) + 1]),
@@ -370,7 +289,7 @@ fn degree(random: &mut Random, n: usize) -> usize {
 }
 
 /// A pole count: mostly one that n points and the degree allow.
-fn pole_count(random: &mut Random, n: usize, degree: usize) -> usize {
+pub fn pole_count(random: &mut Random, n: usize, degree: usize) -> usize {
     match random.below(12) {
         0 => random.from_to(0, n + 2),
         1 => *random.of(&[0, 1, degree, n, n + 1, usize::MAX, (1 << 32) + n]),
@@ -384,7 +303,7 @@ fn near(random: &mut Random, k: usize, by: usize) -> usize {
 }
 
 /// The points of a rare corner or of a neighbour of it, with its degree, pole count and tolerance.
-fn corner(random: &mut Random) -> (Vec<Point3D>, usize, usize, f64) {
+pub fn corner(random: &mut Random) -> (Vec<Point3D>, usize, usize, f64) {
     let plane = |n: usize, y: &mut dyn FnMut(usize) -> f64| (0..n).map(|k| Point3D::new(k as f64, y(k), 0.0)).collect::<Vec<_>>();
     match random.below(10) {
         0 => {
@@ -466,11 +385,11 @@ fn damage(random: &mut Random, c: &mut Call) {
 }
 
 /// By how much each lent slice is longer than needed: mostly not at all, or by a few places; sometimes one is one short, or some are nearly empty.
-fn extra(random: &mut Random, needed: &[usize; 8]) -> [i64; 8] {
+pub fn extra<const N: usize>(random: &mut Random, needed: &[usize; N]) -> [i64; N] {
     let longer = random.one_in(3);
     let mut extra = std::array::from_fn(|_| if longer { random.below(7) as i64 } else { 0 });
     match random.below(24) {
-        0 | 1 => extra[random.from_to(0, 7)] = -1,
+        0 | 1 => extra[random.from_to(0, N - 1)] = -1,
         2 => extra.iter_mut().zip(needed).for_each(|(e, &length)| if random.one_in(4) { *e = random.below(4) as i64 - length as i64 }),
         _ => {}
     }
@@ -835,6 +754,17 @@ fn timed(entry: usize, n: usize, degree: usize, noisy: bool) -> Call {
 }
 
 /// The least seconds of ours and of the Rust's, run in turn.
+pub fn in_turn(mut my: impl FnMut(), mut their: impl FnMut()) -> (f64, f64) {
+    let rounds = (0.3 / least_seconds(2, &mut their)).clamp(8.0, 100.0) as usize;
+    let (mut mine, mut theirs) = (f64::INFINITY, f64::INFINITY);
+    for _ in 0..rounds {
+        theirs = theirs.min(least_seconds(3, &mut their));
+        mine = mine.min(least_seconds(3, &mut my));
+    }
+    (mine, theirs)
+}
+
+/// The seconds of our call and of the Rust's.
 fn times(c: &Call) -> (f64, f64) {
     let (n, points) = (c.lengths(), c.points());
     let doubles = |i: usize| vec![0.0; n[i]];
@@ -844,15 +774,9 @@ fn times(c: &Call) -> (f64, f64) {
         poles: &mut poles, flat: &mut flat, knots: &mut knots, mults: &mut mults,
         work: &mut work, index: &mut index, largest: &mut largest, counts: &mut counts,
     };
-    let mut my = || { black_box(ours::ladder(c.entry, black_box(&c.places), c.degree, c.count, c.tolerance, c.spacing, &mut lent)); };
-    let mut their = || { let _ = black_box(published(black_box(c), &points)); };
-    let rounds = (0.3 / least_seconds(2, &mut their)).clamp(8.0, 100.0) as usize;
-    let (mut mine, mut theirs) = (f64::INFINITY, f64::INFINITY);
-    for _ in 0..rounds {
-        theirs = theirs.min(least_seconds(3, &mut their));
-        mine = mine.min(least_seconds(3, &mut my));
-    }
-    (mine, theirs)
+    let my = || { black_box(ours::ladder(c.entry, black_box(&c.places), c.degree, c.count, c.tolerance, c.spacing, &mut lent)); };
+    let their = || { let _ = black_box(published(black_box(c), &points)); };
+    in_turn(my, their)
 }
 
 pub fn bench() {

@@ -15,6 +15,8 @@ pub use tolerance::Tolerance;
 pub use vector::{Vector2D, Vector3D};
 
 mod bands;
+mod grids;
+mod guarded;
 mod knots;
 mod ladders;
 mod ours;
@@ -34,8 +36,9 @@ fn main() {
         Some("bands") => bands::compare(number(1, 20_000), number(2, 1)),
         Some("tables") => tables::compare(number(1, 20_000), number(2, 1)),
         Some("ladders") => ladders::compare(number(1, 20_000), number(2, 1)),
+        Some("grids") => grids::compare(number(1, 20_000), number(2, 1)),
         Some("card") => ladders::cards::compare(number(1, 20_000), number(2, 1)),
-        Some("try") => ladders::compare_stated(),
+        Some("try") => ladders::compare_stated() + grids::compare_stated(),
         Some("list") if words.len() == 2 => ladders::list(&words[1]),
         Some("bench") => {
             roots::bench();
@@ -43,11 +46,12 @@ fn main() {
             bands::bench();
             tables::bench();
             ladders::bench();
+            grids::bench();
             0
         }
         _ => {
             eprintln!("beside roots COUNT SEED | readings COUNT SEED | knots COUNT SEED | bands COUNT SEED | tables COUNT SEED");
-            eprintln!("     | ladders COUNT SEED | card COUNT SEED | try | list FILE | bench");
+            eprintln!("     | ladders COUNT SEED | grids COUNT SEED | card COUNT SEED | try | list FILE | bench");
             std::process::exit(2)
         }
     };

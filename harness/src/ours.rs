@@ -26,12 +26,12 @@ unsafe extern "C" {
     );
     fn pieces_least_squares(
         work: *mut f64, len: usize, index: *const usize, index_len: usize, points: *const f64, points_len: usize,
-        degree: usize, count: usize, firsts: usize, values: usize, kind: usize, lines: usize, across: usize, start: usize,
+        degree: usize, count: usize, firsts: usize, values: usize, kind: usize, lines: usize, across: usize, start: usize, end: usize,
         m: usize, band: usize, poles: usize,
     ) -> bool;
     fn pieces_interpolation(
         work: *mut f64, len: usize, index: *const usize, index_len: usize, points: *const f64, points_len: usize,
-        degree: usize, count: usize, firsts: usize, values: usize, kind: usize, lines: usize, across: usize, start: usize,
+        degree: usize, count: usize, firsts: usize, values: usize, kind: usize, lines: usize, across: usize, start: usize, end: usize,
         band: usize, poles: usize,
     );
     fn pieces_ladder_deviations(
@@ -66,6 +66,18 @@ unsafe extern "C" {
     fn nigorzai_search_spread(
         points: *const f64, points_len: usize, degree: usize, tolerance: f64, spacing: usize,
         poles: *mut f64, poles_len: usize, flat: *mut f64, flat_len: usize, knots: *mut f64, knots_len: usize, mults: *mut u32, mults_len: usize,
+        work: *mut f64, work_len: usize, index: *mut usize, index_len: usize, largest: *mut f64, largest_len: usize, counts: *mut usize, counts_len: usize,
+    ) -> u32;
+    fn nigorzai_approximate_grid(
+        points: *const f64, points_len: usize, rows: usize, cols: usize, u_degree: usize, v_degree: usize, u_count: usize, v_count: usize, spacing: usize,
+        poles: *mut f64, poles_len: usize, u_flat: *mut f64, u_flat_len: usize, u_knots: *mut f64, u_knots_len: usize, u_mults: *mut u32, u_mults_len: usize,
+        v_flat: *mut f64, v_flat_len: usize, v_knots: *mut f64, v_knots_len: usize, v_mults: *mut u32, v_mults_len: usize,
+        work: *mut f64, work_len: usize, index: *mut usize, index_len: usize, largest: *mut f64, largest_len: usize, counts: *mut usize, counts_len: usize,
+    ) -> u32;
+    fn nigorzai_approximate_grid_within(
+        points: *const f64, points_len: usize, rows: usize, cols: usize, u_degree: usize, v_degree: usize, tolerance: f64, spacing: usize,
+        poles: *mut f64, poles_len: usize, u_flat: *mut f64, u_flat_len: usize, u_knots: *mut f64, u_knots_len: usize, u_mults: *mut u32, u_mults_len: usize,
+        v_flat: *mut f64, v_flat_len: usize, v_knots: *mut f64, v_knots_len: usize, v_mults: *mut u32, v_mults_len: usize,
         work: *mut f64, work_len: usize, index: *mut usize, index_len: usize, largest: *mut f64, largest_len: usize, counts: *mut usize, counts_len: usize,
     ) -> u32;
 }
@@ -265,7 +277,7 @@ impl Work {
         unsafe {
             pieces_least_squares(
                 w.as_mut_ptr(), w.len(), self.index.as_ptr(), self.index.len(), points.as_ptr(), points.len(), self.degree, self.count, FIRSTS, self.values,
-                d.kind, d.lines, d.across, self.start, self.m, self.band, self.poles,
+                d.kind, d.lines, d.across, self.start, self.start + 3 * self.count * d.across, self.m, self.band, self.poles,
             )
         }
     }
@@ -283,7 +295,7 @@ impl Work {
             unsafe {
                 pieces_interpolation(
                     w.as_mut_ptr(), w.len(), s.index.as_ptr(), s.index.len(), points.as_ptr(), points.len(), s.degree, s.count, FIRSTS, s.values,
-                    d.kind, d.lines, d.across, s.start, s.band, s.poles,
+                    d.kind, d.lines, d.across, s.start, s.start + 3 * s.count * d.across, s.band, s.poles,
                 )
             }
         })
@@ -380,5 +392,43 @@ pub fn ladder(entry: usize, points: &[f64], degree: usize, count: usize, toleran
         APPROXIMATE => call!(nigorzai_approximate, degree, count, spacing),
         WITHIN => call!(nigorzai_approximate_within, degree, tolerance, spacing),
         _ => call!(nigorzai_search_spread, degree, tolerance, spacing),
+    }
+}
+
+/// The eleven slices that a grid call is lent.
+pub struct GridLent<'a> {
+    pub poles: &'a mut [f64],
+    pub u_flat: &'a mut [f64],
+    pub u_knots: &'a mut [f64],
+    pub u_mults: &'a mut [u32],
+    pub v_flat: &'a mut [f64],
+    pub v_knots: &'a mut [f64],
+    pub v_mults: &'a mut [u32],
+    pub work: &'a mut [f64],
+    pub index: &'a mut [usize],
+    pub largest: &'a mut [f64],
+    pub counts: &'a mut [usize],
+}
+
+/// A grid call, with pole counts along u and v where they are chosen, else within the tolerance: 0 for a fit, or the number of a refusal.
+pub fn grid(
+    points: &[f64], [rows, cols]: [usize; 2], [p, q]: [usize; 2], chosen: Option<[usize; 2]>, tolerance: f64, spacing: usize, lent: &mut GridLent,
+) -> u32 {
+    macro_rules! call {
+        ($f:ident, $($own:expr),*) => {
+            unsafe {
+                $f(
+                    points.as_ptr(), points.len(), rows, cols, p, q, $($own),*, spacing, lent.poles.as_mut_ptr(), lent.poles.len(),
+                    lent.u_flat.as_mut_ptr(), lent.u_flat.len(), lent.u_knots.as_mut_ptr(), lent.u_knots.len(), lent.u_mults.as_mut_ptr(), lent.u_mults.len(),
+                    lent.v_flat.as_mut_ptr(), lent.v_flat.len(), lent.v_knots.as_mut_ptr(), lent.v_knots.len(), lent.v_mults.as_mut_ptr(), lent.v_mults.len(),
+                    lent.work.as_mut_ptr(), lent.work.len(), lent.index.as_mut_ptr(), lent.index.len(),
+                    lent.largest.as_mut_ptr(), lent.largest.len(), lent.counts.as_mut_ptr(), lent.counts.len(),
+                )
+            }
+        };
+    }
+    match chosen {
+        Some([m, n]) => call!(nigorzai_approximate_grid, m, n),
+        None => call!(nigorzai_approximate_grid_within, tolerance),
     }
 }

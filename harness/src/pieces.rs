@@ -63,6 +63,13 @@ pub fn spread(points: &[Point3D], params: &[f64], degree: usize, tolerance: f64)
     super::fit_on_spread_knots(params, degree, tolerance, params.len(), attempt(points, degree))
 }
 
+/// The spread search below `last` poles, for any data.
+pub fn spread_below<F>(
+    params: &[f64], degree: usize, tolerance: f64, last: usize, attempt: impl FnMut(&[f64], &BasisTable, &mut [f64]) -> Option<F>,
+) -> Option<(Vec<f64>, F)> {
+    super::fit_on_spread_knots(params, degree, tolerance, last, attempt)
+}
+
 pub fn interpolated(points: &[Point3D], params: &[f64], degree: usize) -> Parts {
     super::interpolated(points, params, degree)
 }

@@ -96,3 +96,63 @@ pub fn grid(random: &mut Random, rows: usize, cols: usize) -> Vec<Point3D> {
     }
     points
 }
+
+/// Point (i, j) is the sum of half of point i of one ladder and half of point j of another.
+pub fn summed(a: &[Point3D], b: &[Point3D]) -> Vec<Point3D> {
+    let half = |s: f64, t: f64| 0.5 * s + 0.5 * t;
+    a.iter().flat_map(|r| b.iter().map(move |q| p(half(r.x, q.x), half(r.y, q.y), half(r.z, q.z)))).collect()
+}
+
+/// One row is the ladder; each other row stays at one point, and so has no length.
+pub fn lone(random: &mut Random, rows: usize, ladder: &[Point3D]) -> Vec<Point3D> {
+    let (at, apart) = (random.from_to(0, rows - 1), *random.of(&[1.0, 100.0, 1e-3]));
+    let row = |i: usize| if i == at { ladder.to_vec() } else { vec![p(i as f64 * apart, 0.5, -0.0); ladder.len()] };
+    (0..rows).flat_map(row).collect()
+}
+
+/// A flat grid, its lines unevenly apart.
+fn flat(random: &mut Random, rows: usize, cols: usize) -> Vec<Point3D> {
+    let mut along = |n: usize| { let mut at = 0.0; (0..n).map(|_| { at += 1.0 + random.below(3) as f64; at }).collect::<Vec<f64>>() };
+    let (xs, ys) = (along(rows), along(cols));
+    xs.iter().flat_map(|&x| ys.iter().map(move |&y| p(x, y, 0.0))).collect()
+}
+
+/// Rows about as long as the bound below which they are skipped.
+fn short_rows(random: &mut Random, rows: usize, cols: usize) -> Vec<Point3D> {
+    let mut points = Vec::with_capacity(rows * cols);
+    for i in 0..rows {
+        let length = *random.of(&[1e-7, 1e-7, 1e-7f64.next_up(), 1e-7f64.next_down(), 0.0]);
+        let last = if random.one_in(2) { 1 } else { cols - 1 };
+        points.extend((0..cols).map(|j| p(length * j.min(last) as f64 / last as f64, i as f64, 0.0)));
+    }
+    points
+}
+
+/// Points one apart whose heights are bent unevenly along both directions.
+fn bent(random: &mut Random, rows: usize, cols: usize) -> Vec<Point3D> {
+    let mut heights = |n: usize| (0..n).map(|_| random.below(4) as f64).collect::<Vec<f64>>();
+    let (a, b) = (heights(rows), heights(cols));
+    (0..rows * cols).map(|k| p((k / cols) as f64, (k % cols) as f64, a[k / cols] + b[k % cols])).collect()
+}
+
+/// cols x rows points as rows x cols.
+pub fn turned(points: &[Point3D], rows: usize, cols: usize) -> Vec<Point3D> {
+    (0..rows * cols).map(|k| points[k % cols * rows + k / cols]).collect()
+}
+
+/// rows x cols points of a grid of any kind.
+fn upright_grid(random: &mut Random, rows: usize, cols: usize) -> Vec<Point3D> {
+    match random.below(12) {
+        0 => flat(random, rows, cols),
+        1 => short_rows(random, rows, cols),
+        2 => { let ladder = ladder(random, cols); lone(random, rows, &ladder) }
+        3 | 4 | 5 => bent(random, rows, cols),
+        6 | 7 => { let (a, b) = (ladder(random, rows), ladder(random, cols)); summed(&a, &b) }
+        _ => grid(random, rows, cols),
+    }
+}
+
+/// The same, half of them turned.
+pub fn any_grid(random: &mut Random, rows: usize, cols: usize) -> Vec<Point3D> {
+    if random.one_in(2) { upright_grid(random, rows, cols) } else { turned(&upright_grid(random, cols, rows), rows, cols) }
+}

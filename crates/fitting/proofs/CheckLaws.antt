@@ -1,5 +1,5 @@
 -- What a ladder that passes the checks has. Assumes nothing.
-use mathlib.Core.Path.{_≡_}
+use mathlib.Core.Path.{_≡_, sym, ap, _∙_}
 use mathlib.Core.List.{List}
 use Prim.Native.Nat.{ℕ, _-_, _*_, _<_, _≤_}
 use native.Mathlib.Nat.{mul-le-mul}
@@ -14,9 +14,11 @@ use Rattle.bspline.specs.declared.Verdict.the-variants.{Pass, Stop}
 use Rattle.bspline.specs.Refusals.{_next_}
 use Rattle.bspline.proofs.CheckLaws.{both-pass, test-fails}
 use Rattle.fitting.specs.declared.Room.{Room}
+use Rattle.fitting.specs.declared.Aim.{Aim}
+use Rattle.fitting.specs.declared.Aim.the-variants.{Count, Within}
 use Rattle.fitting.specs.declared.Call.{Call}
 use Rattle.fitting.specs.declared.Call.the-variants.{Interpolate, Approximate, ApproximateWithin, SearchSpread}
-use Rattle.fitting.specs.Ladders.{Lent, pointCount, shapeVerdict, chosenVerdict, unchosenVerdict, countVerdict, roomVerdict, roomOf, ladderChecks, Shaped, Roomy}
+use Rattle.fitting.specs.Ladders.{Lent, pointCount, shapeVerdict, chosenVerdict, unchosenVerdict, aimVerdict, countVerdict, roomVerdict, roomOf, ladderChecks, Shaped, Roomy}
 
 pub next-stop : (v w : Verdict) (c : Refusal) → v ≡ Stop c → Stop c ≡ (v next w)
 unfolding _next_
@@ -95,3 +97,16 @@ count-under (SearchSpread t) n p e h = omega (arith, unchosen-pass n p e)
 pub count-chosen : (m n p : ℕ) → countVerdict (Approximate m) n p ≡ Pass → 1 ≤ p → (p < m) × (m ≤ n)
 unfolding countVerdict
 count-chosen m n p e h = let c = chosen-pass n p m e in (omega (arith, c .0), c .1)
+
+-- the same for one direction of a grid
+pub aim-under : (aim : Aim) (n p : ℕ) → aimVerdict aim n p ≡ Pass → 1 ≤ p → p < n
+unfolding aimVerdict
+aim-under (Count m) n p e h = let c = chosen-pass n p m e in omega (arith, c .0, c .1)
+aim-under (Within t) n p e h = omega (arith, unchosen-pass n p e)
+
+pub aim-chosen : (aim : Aim) (m n p : ℕ) → aim ≡ Count m → aimVerdict aim n p ≡ Pass → 1 ≤ p → (p < m) × (m ≤ n)
+unfolding aimVerdict
+aim-chosen aim m n p a e h =
+    let q : chosenVerdict n p m ≡ Pass = sym (ap (λ (x : Aim). aimVerdict x n p) a) ∙ e in
+    let c = chosen-pass n p m q in
+    (omega (arith, c .0), c .1)

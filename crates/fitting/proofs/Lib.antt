@@ -5,7 +5,9 @@ pub mod ToleranceLaws
 pub mod HandedLaws
 pub mod LadderLaws
 pub mod AttemptLaws
+pub mod MeasureLaws
 pub mod RoundsLaws
 pub mod CountLaws
 pub mod MakeLaws
+pub mod SavedLaws
 pub mod RunLaws

@@ -1,25 +1,25 @@
 -- Refinement in a job's regions: one round, that rounds which are enough for the parameters are enough, and the loop over them. Assumes nothing.
 use mathlib.Core.Path.{_≡_, refl, sym, _∙_, ap, subst}
 use mathlib.Core.Bool.{Bool, true, false, cond}
-use mathlib.Core.List.{List}
+use mathlib.Core.List.{List, _++_}
 use mathlib.Core.Logic.{inl, inr}
 use mathlib.Core.Option.{Option, none, some}
 use Prim.Native.Nat.{ℕ, zero, suc, _+_, _-_, _*_, _≤_, _<_}
 use native.Mathlib.Omega.{arith}
-use lib.ListN.{length, drop, length-drop}
+use lib.ListN.{length, drop, length-drop, length-append}
 use lib.Seq.{take-all}
 use lib.Ieee.{Float, le}
 use Rattle.places.specs.Regions.{part, splice}
-use Rattle.places.proofs.RegionLaws.{length-part, length-splice, part-splice}
+use Rattle.places.proofs.RegionLaws.{length-part, part-splice}
 use Rattle.geometry.specs.Doubles.{largest}
 use Rattle.knots.specs.Knots.{bezierKnots}
 use Rattle.knots.proofs.KnotLaws.{length-bezier}
 use Rattle.tables.specs.declared.Measured.{Measured}
 use Rattle.tables.specs.Deviations.{largestWithin}
-use Rattle.tables.specs.Directions.{Direction, ladder}
+use Rattle.tables.specs.Directions.{Direction}
 use Rattle.tables.specs.Layout.{Kept}
 use Rattle.tables.specs.Measures.{measured}
-use Rattle.tables.proofs.KeptLaws.{kept-same, kept-wider, kept-then, kept-part}
+use Rattle.tables.proofs.KeptLaws.{kept-same, kept-splice, kept-wider, kept-then, kept-part}
 use Rattle.tables.proofs.TableLaws.{length-firsts}
 use Rattle.refinement.specs.declared.Round.{Round}
 use Rattle.refinement.specs.declared.Round.the-variants as round
@@ -37,7 +37,7 @@ use Rattle.fitting.specs.declared.Reached.{Reached}
 use Rattle.fitting.specs.declared.Reached.the-variants.{Missed, Met}
 use Rattle.fitting.specs.Within.{Candidate, tableOn, fitOn, Refining, going, fitted, stuck, goingOn, judged, refinementRound, refinementRounds, fitIn, fitWithRefinedKnots}
 use Rattle.fitting.specs.Jobs.{directionOf, flatIn, candidateIn, attempted, turned, refinedIn, HasJob, HasKnots, Attempts, Turns, RefinesWithin}
-use Rattle.fitting.proofs.AttemptLaws.{fills, params-long, has-job-kept, direction-kept, kept-knots, direction-put, flat-put, missed, met, reaches-later}
+use Rattle.fitting.proofs.AttemptLaws.{fills, params-long, has-job-kept, direction-kept, kept-knots, has-job-put, direction-put, flat-put, missed, met, reaches-later}
 
 -- ---- the rounds of a direction
 
@@ -122,7 +122,7 @@ part-rest e n l h = take-all (n - e) (drop e l) (omega (arith, length-drop e l))
 
 module _ (j : Job) (points w : List Float) (index : List ℕ) (has : HasJob j points w index) (l : ℕ) (knots : HasKnots j l) (t : Float) where
   abbrev d : Direction
-  d = directionOf j points w
+  d = directionOf j points w index
 
   abbrev flat : List Float
   flat = flatIn j l w
@@ -141,11 +141,11 @@ module _ (j : Job) (points w : List Float) (index : List ℕ) (has : HasJob j po
     end = j .table .firsts + j .table .count
 
     firsts-long : length (tableOn d flat .firsts) ≡ end - start
-    unfolding directionOf flatIn ladder
+    unfolding directionOf flatIn
     firsts-long = length-firsts (j .table) (j .flat) (j .flat + l) (j .params) w w index index (fills j points w index has l knots) ∙ omega arith
 
-    pub index-long : (r : Attempt) → Attempts j points l w w₁ index index₁ r → length index₁ ≡ length index
-    index-long r x = ap length (x .firsts) ∙ length-splice start end (tableOn d flat .firsts) index (omega arith) (has .firsts-in) firsts-long
+    pub index-kept : (r : Attempt) → Attempts j points l w w₁ index index₁ r → Kept start end index index₁
+    index-kept r x = rw (x .firsts) (kept-splice start end (tableOn d flat .firsts) index (omega arith) (has .firsts-in) firsts-long)
 
     pub turn-unfitted : Attempts j points l w w₁ index index₁ Unfitted → Turns j points l t w w₁ index index₁ Ended
     unfolding attempted turned
@@ -153,13 +153,13 @@ module _ (j : Job) (points w : List Float) (index : List ℕ) (has : HasJob j po
       answer = round-unfitted d t flat (x .answer);
       measures = λ y z. let u : _≡_ {A = ℕ} 0 1 = cc in absurd (omega arith);
       grows = λ k z. let u : _≡_ {A = ℕ} 0 1 = cc in absurd (omega arith);
-      firsts = index-long Unfitted x;
+      firsts = index-kept Unfitted x;
       kept = kept-attempt w₁ (x .kept);
     }
 
     module _ (y : Measured) (x : Attempts j points l w w₁ index index₁ (Fitting y)) where
       abbrev f : Candidate
-      f = candidateIn j points l w₁
+      f = candidateIn j points l w₁ index₁
 
       fit-there : fitOn d flat ≡ some f
       unfolding attempted
@@ -179,7 +179,7 @@ module _ (j : Job) (points w : List Float) (index : List ℕ) (has : HasJob j po
         answer = round-within d t flat f fit-there (test-is ∙ h);
         measures = λ m z. let u : y ≡ m = cc in sym u ∙ x .measures y refl;
         grows = λ k z. let u : _≡_ {A = ℕ} 0 1 = cc in absurd (omega arith);
-        firsts = index-long (Fitting y) x;
+        firsts = index-kept (Fitting y) x;
         kept = kept-attempt w₁ (x .kept);
       }
 
@@ -194,12 +194,12 @@ module _ (j : Job) (points w : List Float) (index : List ℕ) (has : HasJob j po
 
       regions : RoundRegions (j .table .count) (j .params) (j .deviations) (j .flat) (j .fresh) l (j .table .degree) (length w₁)
       regions = record {
-        parameters = inl (omega (arith, has .params-in, has .flat-in, has .values-in, has .band-in, has .poles-in));
+        parameters = inl (omega (arith, has .params-in, has .flat-in, has .values-in, has .band-in, has .poles-in, has .curve-in));
         knots = inl (has .params-in);
-        deviations = inr (omega (arith, has .flat-in, has .values-in, has .band-in, has .poles-in));
-        parameters-end = omega (arith, has .params-in, has .flat-in, has .values-in, has .band-in, has .poles-in, has .deviations-in);
+        deviations = inr (omega (arith, has .flat-in, has .values-in, has .band-in, has .poles-in, has .curve-in));
+        parameters-end = omega (arith, has .params-in, has .flat-in, has .values-in, has .band-in, has .poles-in, has .curve-in, has .deviations-in);
         deviations-end = has .deviations-in;
-        knots-end = omega (arith, has .flat-in, has .values-in, has .band-in, has .poles-in, has .deviations-in);
+        knots-end = omega (arith, has .flat-in, has .values-in, has .band-in, has .poles-in, has .curve-in, has .deviations-in);
         new = omega (arith, has .fresh-in, x .kept .long);
         least = omega (arith, knots .least);
         most = knots .most;
@@ -212,7 +212,7 @@ module _ (j : Job) (points w : List Float) (index : List ℕ) (has : HasJob j po
       splitting n = refinedKnots (part (j .params) (j .params + n) w₁) firsts (part (j .deviations) (j .deviations + n) w₁) (y .largest) t (j .table .degree) (part (j .flat) (j .flat + l) w₁)
 
       splitting-is : splitting (j .table .count) ≡ refinedKnots (d .params) (tableOn d flat .firsts) (d .deviations (f .distances)) (largest (f .distances)) t (d .degree) flat
-      unfolding directionOf flatIn ladder
+      unfolding directionOf flatIn
       splitting-is =
           let p : part (j .params) (j .params + j .table .count) w₁ ≡ d .params =
           kept-part (j .table .values) (j .deviations + j .table .count) w w₁ (x .kept) (j .params) (j .params + j .table .count) (omega arith) (omega (arith, has .params-in, has .flat-in)) in
@@ -225,7 +225,7 @@ module _ (j : Job) (points w : List Float) (index : List ℕ) (has : HasJob j po
           ∙ ap (refinedKnots (d .params) (tableOn d flat .firsts) (d .deviations (f .distances)) (largest (f .distances)) t (j .table .degree)) q
 
       -- a round of splitting on this fit
-      module _ (beyond : le (y .largest) t ≡ false) (w₂ : List Float) (index₂ : List ℕ) (long : length index₂ ≡ length index) (r : Round)
+      module _ (beyond : le (y .largest) t ≡ false) (w₂ : List Float) (ends : List ℕ) (put : ends ≡ spanEnds firsts ++ drop (length (spanEnds firsts)) firsts) (r : Round)
           (told : r ≡ roundOf (splitting (length firsts)))
           (after : w₂ ≡ workAfter (length firsts) (j .params) (j .deviations) (j .flat) (j .fresh) l (j .table .degree) t (y .largest) (spanEnds firsts) w₁) where
         round-is : refinementRound d t (going flat) ≡ goingOn (splitting (j .table .count))
@@ -248,7 +248,7 @@ module _ (j : Job) (points w : List Float) (index : List ℕ) (has : HasJob j po
               long = same;
               front =
                   after-take (j .table .count) (j .params) (j .deviations) (j .flat) (j .fresh) l (j .table .degree) (spanEnds firsts) t (y .largest) w₁ w₂ regions spans-few after′ (j .flat)
-                  (omega (arith, has .flat-in, has .values-in, has .band-in, has .poles-in)) (omega arith) (omega (arith, regions .knots-end));
+                  (omega (arith, has .flat-in, has .values-in, has .band-in, has .poles-in, has .curve-in)) (omega arith) (omega (arith, regions .knots-end));
               back =
                   sym (part-rest last (length w₁) w₂ same)
                   ∙ after-part (j .table .count) (j .params) (j .deviations) (j .flat) (j .fresh) l (j .table .degree) (spanEnds firsts) t (y .largest) w₁ w₂ regions spans-few after′ last (length w₁)
@@ -259,17 +259,27 @@ module _ (j : Job) (points w : List Float) (index : List ℕ) (has : HasJob j po
         kept-turn : Kept (j .flat) last w w₂
         kept-turn = kept-then (j .flat) last w w₁ w₂ (kept-attempt w₁ (x .kept)) kept-refine
 
-        pub turn-stuck : r ≡ round.Stuck → Turns j points l t w w₂ index index₂ Ended
+        ends-long : length ends ≡ end - start
+        ends-long =
+            ap length put
+            ∙ omega (arith, length-append (spanEnds firsts) (drop (length (spanEnds firsts)) firsts), length-drop (length (spanEnds firsts)) firsts, spans-most firsts, count-is)
+
+        held-turn : Kept start end index (splice start end ends index₁)
+        held-turn =
+            kept-then start end index index₁ (splice start end ends index₁) (index-kept (Fitting y) x)
+            (kept-splice start end ends index₁ (omega arith) (omega (arith, has .firsts-in, index-kept (Fitting y) x .long)) ends-long)
+
+        pub turn-stuck : r ≡ round.Stuck → Turns j points l t w w₂ index (splice start end ends index₁) Ended
         unfolding turned goingOn
         turn-stuck e = record {
           answer = round-is ∙ ap goingOn (round-stuck (splitting (j .table .count)) (sym told′ ∙ e));
           measures = λ m z. let u : _≡_ {A = ℕ} 0 1 = cc in absurd (omega arith);
           grows = λ k z. let u : _≡_ {A = ℕ} 0 1 = cc in absurd (omega arith);
-          firsts = long;
+          firsts = held-turn;
           kept = kept-turn;
         }
 
-        pub turn-next : (k : ℕ) → r ≡ round.Refined k → Turns j points l t w w₂ index index₂ (Next k)
+        pub turn-next : (k : ℕ) → r ≡ round.Refined k → Turns j points l t w w₂ index (splice start end ends index₁) (Next k)
         unfolding turned goingOn flatIn
         turn-next k e =
             let got : Refines (j .table .count) (j .params) (j .deviations) (j .flat) (j .fresh) l (j .table .degree) k firsts t (y .largest) w₁ w₂ =
@@ -278,7 +288,7 @@ module _ (j : Job) (points w : List Float) (index : List ℕ) (has : HasJob j po
               answer = round-is ∙ ap goingOn (got .knots) ∙ ap going (sym (got .stands));
               measures = λ m z. let u : _≡_ {A = ℕ} 0 1 = cc in absurd (omega arith);
               grows = λ n z. let u : k ≡ n = cc in (omega (arith, got .grows), omega (arith, got .few));
-              firsts = long;
+              firsts = held-turn;
               kept = kept-turn;
             }
 
@@ -289,7 +299,7 @@ first-knots j h = record { least = omega arith; most = omega arith }
 
 module _ (j : Job) (points : List Float) (t : Float) (w₀ : List Float) (index₀ : List ℕ) where
   abbrev d₀ : Direction
-  d₀ = directionOf j points w₀
+  d₀ = directionOf j points w₀ index₀
 
   abbrev goal : Refining
   goal = refinementRounds d₀ t (j .table .count) (going (bezierKnots (j .table .degree)))
@@ -303,12 +313,12 @@ module _ (j : Job) (points : List Float) (t : Float) (w₀ : List Float) (index�
     pub has : HasJob j points w index
     pub knots : HasKnots j l
     pub kept : Kept (j .flat) (j .fresh + j .table .count) w₀ w
-    pub firsts : length index ≡ length index₀
+    pub firsts : Kept (j .table .firsts) (j .table .firsts + j .table .count) index₀ index
     pub rest : refinementRounds d₀ t (left l) (going (flatIn j l w)) ≡ goal
 
   module _ (has₀ : HasJob j points w₀ index₀) where
     degree-is : d₀ .degree ≡ j .table .degree
-    unfolding directionOf ladder
+    unfolding directionOf
     degree-is = refl
 
     params-are : length (d₀ .params) ≡ j .table .count
@@ -337,21 +347,21 @@ module _ (j : Job) (points : List Float) (t : Float) (w₀ : List Float) (index�
           has = has₀;
           knots = first-knots j (has₀ .under);
           kept = kept-same (j .flat) (j .fresh + j .table .count) w₀;
-          firsts = refl;
+          firsts = kept-same (j .table .firsts) (j .table .firsts + j .table .count) index₀;
           rest =
               ap (λ (v : List Float). refinementRounds d₀ t (left l) (going v)) e
               ∙ enough-here (left l) (j .table .count) (bezierKnots (j .table .degree)) (omega arith) (omega (arith, has₀ .under)) (omega (arith, has₀ .under)) (omega (arith, has₀ .under));
         }
 
   module _ (w : List Float) (index : List ℕ) (l : ℕ) (v : Rounding w index l) (w′ : List Float) (index′ : List ℕ) (r : Turn) (x : Turns j points l t w w′ index index′ r) where
-    direction-same : directionOf j points w ≡ d₀
-    direction-same = direction-kept j points w₀ w (j .fresh + j .table .count) (v .first .params-in) (v .kept)
+    direction-same : directionOf j points w index ≡ d₀
+    direction-same = direction-kept j points w₀ w index₀ index (j .fresh + j .table .count) (j .table .firsts + j .table .count) (v .first) (v .kept) (v .firsts)
 
     abbrev more : ℕ
     more = j .table .count + j .table .degree + 1 - l
 
     -- the rest, after this round
-    rest-is : goal ≡ refinementRounds d₀ t more (turned r (candidateIn j points l w′) (λ (k : ℕ). flatIn j k w′))
+    rest-is : goal ≡ refinementRounds d₀ t more (turned r (candidateIn j points l w′ index′) (λ (k : ℕ). flatIn j k w′))
     rest-is =
         let z : left l ≡ suc more = omega (arith, v .knots .most) in
         sym (v .rest)
@@ -363,13 +373,16 @@ module _ (j : Job) (points : List Float) (t : Float) (w₀ : List Float) (index�
     kept-all : Kept (j .flat) (j .fresh + j .table .count) w₀ w′
     kept-all = kept-then (j .flat) (j .fresh + j .table .count) w₀ w w′ (v .kept) (x .kept)
 
+    held-all : Kept (j .table .firsts) (j .table .firsts + j .table .count) index₀ index′
+    held-all = kept-then (j .table .firsts) (j .table .firsts + j .table .count) index₀ index index′ (v .firsts) (x .firsts)
+
     pub rounding-ended : r ≡ Ended → RefinesWithin j points t w₀ w′ index₀ index′ Missed
     unfolding turned refinedIn fitIn
     rounding-ended e = record {
       answer =
           goal-is (v .first)
-          ∙ ap fitIn (rest-is ∙ ap (λ (u : Turn). refinementRounds d₀ t more (turned u (candidateIn j points l w′) (λ (k : ℕ). flatIn j k w′))) e ∙ rounds-stuck d₀ t more);
-      reaches = missed (x .firsts ∙ v .firsts) kept-all;
+          ∙ ap fitIn (rest-is ∙ ap (λ (u : Turn). refinementRounds d₀ t more (turned u (candidateIn j points l w′ index′) (λ (k : ℕ). flatIn j k w′))) e ∙ rounds-stuck d₀ t more);
+      reaches = missed held-all kept-all;
     }
 
     pub rounding-fits : (y : Measured) → r ≡ Fits y → RefinesWithin j points t w₀ w′ index₀ index′ (Met l y)
@@ -379,9 +392,9 @@ module _ (j : Job) (points : List Float) (t : Float) (w₀ : List Float) (index�
           goal-is (v .first)
           ∙ ap fitIn
           (rest-is
-          ∙ ap (λ (u : Turn). refinementRounds d₀ t more (turned u (candidateIn j points l w′) (λ (k : ℕ). flatIn j k w′))) e
-          ∙ rounds-fitted d₀ t more (candidateIn j points l w′));
-      reaches = met (v .knots) (x .measures y e) (x .firsts ∙ v .firsts) kept-all;
+          ∙ ap (λ (u : Turn). refinementRounds d₀ t more (turned u (candidateIn j points l w′ index′) (λ (k : ℕ). flatIn j k w′))) e
+          ∙ rounds-fitted d₀ t more (candidateIn j points l w′ index′));
+      reaches = met (v .knots) (x .measures y e) held-all kept-all;
     }
 
     pub rounding-next : (k : ℕ) → r ≡ Next k → (l < k) × Rounding w′ index′ k
@@ -390,19 +403,19 @@ module _ (j : Job) (points : List Float) (t : Float) (w₀ : List Float) (index�
         let g = x .grows k e in
         let long : length (part (j .flat) (j .flat + k) w′) ≡ k =
         length-part (j .flat) (j .flat + k) w′
-        (omega (arith, g .1, x .kept .long, v .has .flat-in, v .has .values-in, v .has .band-in, v .has .poles-in, v .has .deviations-in, v .has .fresh-in))
+        (omega (arith, g .1, x .kept .long, v .has .flat-in, v .has .values-in, v .has .band-in, v .has .poles-in, v .has .curve-in, v .has .deviations-in, v .has .fresh-in))
         ∙ omega arith in (
           g .0,
           record {
             first = v .first;
-            has = has-job-kept j points w w′ index index′ (v .has) (x .kept .long) (x .firsts);
+            has = has-job-kept j points w w′ index index′ (j .fresh + j .table .count) (j .table .firsts + j .table .count) (v .has) (x .kept) (x .firsts);
             knots = record { least = omega (arith, g .0, v .knots .least); most = omega (arith, g .1) };
             kept = kept-all;
-            firsts = x .firsts ∙ v .firsts;
+            firsts = held-all;
             rest =
                 sym
                 (rest-is
-                ∙ ap (λ (u : Turn). refinementRounds d₀ t more (turned u (candidateIn j points l w′) (λ (i : ℕ). flatIn j i w′))) e
+                ∙ ap (λ (u : Turn). refinementRounds d₀ t more (turned u (candidateIn j points l w′ index′) (λ (i : ℕ). flatIn j i w′))) e
                 ∙ enough-here (v .first) more (left k) (part (j .flat) (j .flat + k) w′) (omega (arith, g .0, v .knots .least)) (omega (arith, g .1)) (omega (arith, g .0, g .1)) (omega (arith, g .1)));
           },
         )
@@ -428,14 +441,14 @@ module _ (j : Job) (points w : List Float) (index : List ℕ) (has : HasJob j po
 
   pub loop-start : (t : Float) → Rounding j points t w₀ index w₀ index few
   loop-start t =
-      rounding-start j points t w₀ index (has-job-kept j points w w₀ index index has (kept-piece .long) refl)
+      rounding-start j points t w₀ index (has-job-put j points w index has few (first-knots j (has .under)) w₀ piece size put)
       (flat-put j points w index has few (first-knots j (has .under)) w₀ piece size put)
 
   pub loop-end : (t : Float) (w′ : List Float) (index′ : List ℕ) (r : Reached) → RefinesWithin j points t w₀ w′ index index′ r → RefinesWithin j points t w w′ index index′ r
   loop-end t w′ index′ r x = record {
     answer = ap (λ (d : Direction). fitWithRefinedKnots d t) (sym (direction-put j points w index has few (first-knots j (has .under)) w₀ piece size put)) ∙ x .answer;
     reaches =
-        reaches-later (x .reaches) refl
+        reaches-later (x .reaches) (kept-same (j .table .firsts) (j .table .firsts + j .table .count) index)
         (kept-wider (j .flat) (j .flat + few) (j .flat) (j .fresh + j .table .count) w w₀ (omega arith)
-        (omega (arith, has .under, has .flat-in, has .values-in, has .band-in, has .poles-in, has .deviations-in)) kept-piece);
+        (omega (arith, has .under, has .flat-in, has .values-in, has .band-in, has .poles-in, has .curve-in, has .deviations-in)) kept-piece);
   }

@@ -14,6 +14,7 @@ use Rattle.places.proofs.RegionLaws.{length-part}
 use Rattle.geometry.specs.Doubles.{at, largest, nought}
 use Rattle.knots.specs.Knots.{distinctKnots, knotAt, multiplicityAt}
 use Rattle.tables.specs.Deviations.{unreadable}
+use Rattle.tables.specs.Layout.{dataPoint}
 use Rattle.fitting.specs.declared.Job.{Job}
 use Rattle.fitting.specs.declared.Mark.{Mark}
 use Rattle.fitting.specs.declared.Mark.the-variants.{Refined, Spread, Interpolated, Chosen}
@@ -38,15 +39,15 @@ use Rattle.fitting.specs.Within.{Candidate, Marked, candidate, poleCount
 use Rattle.fitting.specs.Marks.{largestDeviation, unmarked, markOf, fitOf}
 use Rattle.fitting.specs.declared.Call.{Call}
 use Rattle.fitting.specs.Ladders.{Lent, lent, Result, accepted, refused, answerOf, answerNumber, resultNumber, handed, handedPoles, handedFlat, handedKnots, handedMults, cleared, checked, resultOf, fitBy, fitWith, ladderFit, HandsOut, LadderCall, shapeVerdict, countVerdict, roomVerdict, roomOf, coordinatesVerdict, ladderChecks}
-use Rattle.fitting.specs.Jobs.{HasJob, directionOf, flatIn, polesIn, candidateIn}
+use Rattle.fitting.specs.Jobs.{HasJob, distancesBy, deviationsBy, withinBy, directionOf, flatIn, polesIn, candidateIn}
 use Rattle.fitting.specs.HandedOut.{HandedOut}
 use Rattle.fitting.specs.Runs.{ladderJob, markedAs, standingIn, madeIn, Makes}
 
-fit-same : (m m′ : Mark) (p p′ k k′ u u′ : ℕ) → m ≡ m′ → p ≡ p′ → k ≡ k′ → u ≡ u′
+pub fit-same : (m m′ : Mark) (p p′ k k′ u u′ : ℕ) → m ≡ m′ → p ≡ p′ → k ≡ k′ → u ≡ u′
     → _≡_ {A = Fit} (record { mark = m; poles = p; knots = k; unreadable = u }) (record { mark = m′; poles = p′; knots = k′; unreadable = u′ })
 fit-same m m′ p p′ k k′ u u′ a b c d = rw (a, b, c, d)
 
-module _ (j : Job) (points w : List Float) (m : ℕ) (a : Marked) (stands : candidateIn j points (m + j .table .degree + 1) w ≡ unmarked a) (inside : j .flat + (m + j .table .degree + 1) ≤ length w) where
+module _ (j : Job) (points w : List Float) (index : List ℕ) (m : ℕ) (a : Marked) (stands : candidateIn j points (m + j .table .degree + 1) w index ≡ unmarked a) (one : j .given .lines ≡ 1) (inside : j .flat + (m + j .table .degree + 1) ≤ length w) where
   knots-are : part (j .flat) (j .flat + (m + j .table .degree + 1)) w ≡ unmarked a .flat
   unfolding candidateIn candidate flatIn
   knots-are = ap (λ (f : Candidate). f .flat) stands
@@ -55,7 +56,10 @@ module _ (j : Job) (points w : List Float) (m : ℕ) (a : Marked) (stands : cand
   unfolding candidateIn candidate polesIn
   poles-are =
       let z : m + j .table .degree + 1 - j .table .degree - 1 ≡ m = omega arith in
-      ap (λ (k : ℕ). part (j .poles) (j .poles + 3 * k) w) (sym z) ∙ ap (λ (f : Candidate). f .poles) stands
+      let y : 3 * (j .given .lines * m) ≡ 3 * m = rw one (omega arith) in
+      ap (λ (k : ℕ). part (j .poles) (j .poles + k) w) (sym y)
+      ∙ ap (λ (k : ℕ). part (j .poles) (j .poles + 3 * (j .given .lines * k)) w) (sym z)
+      ∙ ap (λ (f : Candidate). f .poles) stands
 
   count-is : m ≡ poleCount (j .table .degree) (unmarked a .flat)
   count-is = omega (arith, ap length (sym knots-are) ∙ length-part (j .flat) (j .flat + (m + j .table .degree + 1)) w inside)
@@ -63,16 +67,16 @@ module _ (j : Job) (points w : List Float) (m : ℕ) (a : Marked) (stands : cand
   pub hands-out : (mk : Mark) (u : ℕ) → mk ≡ markOf a → u ≡ unreadable (unmarked a .distances)
       → {poles poles′ flat flat′ knots knots′ : List Float} {mults mults′ : List ℕ} {count : ℕ}
       → HandedOut (part (j .poles) (j .poles + 3 * m) w) (part (j .flat) (j .flat + (m + j .table .degree + 1)) w) poles poles′ flat flat′ knots knots′ mults mults′ count
-      → (work work′ : List Float) (index index′ : List ℕ)
-      → HandsOut (j .table .degree) (accepted a) (lent poles flat knots mults work index) (lent poles′ flat′ knots′ mults′ work′ index′)
+      → (work work′ : List Float) (i i′ : List ℕ)
+      → HandsOut (j .table .degree) (accepted a) (lent poles flat knots mults work i) (lent poles′ flat′ knots′ mults′ work′ i′)
       (Fitted (record { mark = mk; poles = m; knots = count; unreadable = u }))
   unfolding answerOf fitOf handed
-  hands-out mk u marked unread {poles} {poles′} {flat} {flat′} {knots} {knots′} {mults} {mults′} {count} out work work′ index index′ = record {
-    answer = ap Fitted (fit-same mk (markOf a) m (poleCount (j .table .degree) (unmarked a .flat)) count (distinctKnots (unmarked a .flat)) u (unreadable (unmarked a .distances)) marked count-is (out .runs .count ∙ ap distinctKnots knots-are) unread);
+  hands-out mk u marked unread {poles} {poles′} {flat} {flat′} {knots} {knots′} {mults} {mults′} {count} out work work′ i i′ = record {
+    answer = ap Fitted (fit-same mk (markOf a) m (poleCount (j .table .degree) (unmarked a .flat)) count (distinctKnots (unmarked a .flat)) u (unreadable (unmarked a .distances)) marked count-is (out .knots-out .runs .count ∙ ap distinctKnots knots-are) unread);
     poles = out .for-poles ∙ ap (λ (l : List Float). laid 0 (length l) (at l) poles) poles-are;
-    flat = out .for-flat ∙ ap (λ (l : List Float). laid 0 (length l) (at l) flat) knots-are;
-    knots = out .runs .values ∙ ap (λ (l : List Float). laid 0 (distinctKnots l) (knotAt l) knots) knots-are;
-    mults = out .runs .multiplicities ∙ ap (λ (l : List Float). laid 0 (distinctKnots l) (multiplicityAt l) mults) knots-are;
+    flat = out .knots-out .for-flat ∙ ap (λ (l : List Float). laid 0 (length l) (at l) flat) knots-are;
+    knots = out .knots-out .runs .values ∙ ap (λ (l : List Float). laid 0 (distinctKnots l) (knotAt l) knots) knots-are;
+    mults = out .knots-out .runs .multiplicities ∙ ap (λ (l : List Float). laid 0 (distinctKnots l) (multiplicityAt l) mults) knots-are;
   }
 
 module _ (degree : ℕ) {poles flat knots : List Float} {mults : List ℕ} where
@@ -90,14 +94,14 @@ module _ (degree : ℕ) {poles flat knots : List Float} {mults : List ℕ} where
       (record { answer = h .answer; poles = h .poles; flat = h .flat; knots = h .knots; mults = h .mults })
 
 -- a fit that stands there has its own mark
-unmarked-as : (mk : Mark) (m : ℕ) (f : Candidate) → unmarked (markedAs mk m f) ≡ f
+pub unmarked-as : (mk : Mark) (m : ℕ) (f : Candidate) → unmarked (markedAs mk m f) ≡ f
 unfolding unmarked markedAs
 unmarked-as (Refined x) m f = refl
 unmarked-as (Spread x) m f = refl
 unmarked-as (Interpolated x) m f = refl
 unmarked-as (Chosen x) m f = refl
 
-mark-as : (mk : Mark) (m : ℕ) (f : Candidate) → largestDeviation mk ≡ largest (f .distances) → mk ≡ markOf (markedAs mk m f)
+pub mark-as : (mk : Mark) (m : ℕ) (f : Candidate) → largestDeviation mk ≡ largest (f .distances) → mk ≡ markOf (markedAs mk m f)
 unfolding markOf markedAs
 mark-as (Refined x) m f e = ap Refined e
 mark-as (Spread x) m f e = ap Spread e
@@ -108,23 +112,24 @@ module _ {j : Job} {points w w′ : List Float} {index index′ : List ℕ} {fit
   pub hands-refused : (c : Refusal) → r ≡ Fails c → {poles flat knots : List Float} {mults : List ℕ}
       → HandsOut (j .table .degree) fit (lent poles flat knots mults w index) (lent poles flat knots mults w′ index′) (Refused c)
   unfolding madeIn
-  hands-refused c e = run-refused (j .table .degree) fit c (made .answer ∙ ap (λ (x : Made). madeIn x (standingIn j points w′)) e) _ _ _ _
+  hands-refused c e = run-refused (j .table .degree) fit c (made .answer ∙ ap (λ (x : Made). madeIn x (standingIn j points w′ index′)) e) _ _ _ _
 
-  pub hands-standing : (x : Standing) → r ≡ Stands x → HasJob j points w index
+  pub hands-standing : (x : Standing) → r ≡ Stands x → HasJob j points w index → j .given .lines ≡ 1
       → {poles poles′ flat flat′ knots knots′ : List Float} {mults mults′ : List ℕ} {count : ℕ}
       → HandedOut (part (j .poles) (j .poles + 3 * (x .flat - j .table .degree - 1)) w′) (part (j .flat) (j .flat + (x .flat - j .table .degree - 1 + j .table .degree + 1)) w′) poles poles′ flat flat′ knots knots′ mults mults′ count
       → HandsOut (j .table .degree) fit (lent poles flat knots mults w index) (lent poles′ flat′ knots′ mults′ w′ index′)
       (Fitted (record { mark = x .mark; poles = x .flat - j .table .degree - 1; knots = count; unreadable = x .unreadable }))
   unfolding madeIn standingIn
-  hands-standing x e has out =
-      let k = made .few x e in
-      let f = candidateIn j points (x .flat) w′ in
+  hands-standing x e has one out =
+      let stood = made .standing x e in
+      let k = stood .few in
+      let f = candidateIn j points (x .flat) w′ index′ in
       let m = x .flat - j .table .degree - 1 in
       let z : m + j .table .degree + 1 ≡ x .flat = omega (arith, k .least) in
-      run-same (j .table .degree) fit (made .answer ∙ ap (λ (y : Made). madeIn y (standingIn j points w′)) e)
-      (hands-out j points w′ m (markedAs (x .mark) m f) (ap (λ (i : ℕ). candidateIn j points i w′) z ∙ sym (unmarked-as (x .mark) m f))
-      (omega (arith, k .most, has .flat-in, has .values-in, has .band-in, has .poles-in, has .deviations-in, has .fresh-in, made .kept .long))
-      (x .mark) (x .unreadable) (mark-as (x .mark) m f (made .most x e)) (made .unread x e ∙ ap (λ (y : Candidate). unreadable (y .distances)) (sym (unmarked-as (x .mark) m f)))
+      run-same (j .table .degree) fit (made .answer ∙ ap (λ (y : Made). madeIn y (standingIn j points w′ index′)) e)
+      (hands-out j points w′ index′ m (markedAs (x .mark) m f) (ap (λ (i : ℕ). candidateIn j points i w′ index′) z ∙ sym (unmarked-as (x .mark) m f)) one
+      (omega (arith, k .most, has .flat-in, has .values-in, has .band-in, has .poles-in, has .curve-in, has .deviations-in, has .fresh-in, made .kept .long))
+      (x .mark) (x .unreadable) (mark-as (x .mark) m f (stood .most)) (stood .unread ∙ ap (λ (y : Candidate). unreadable (y .distances)) (sym (unmarked-as (x .mark) m f)))
       out w w′ index index′)
 
 -- the regions of a ladder lie in the slices that document 01 asks for
@@ -135,22 +140,31 @@ has-ladder-job n p points work index low high under few given room firsts = reco
   high = high;
   under = under;
   few = few;
-  kind = refl;
-  lines = refl;
-  points-in = given;
+  given =
+      record {
+        kinds = omega arith;
+        one = omega arith;
+        few = omega arith;
+        ladder = λ z. (refl, given);
+        rows = λ z. absurd (omega arith);
+        columns = λ z. absurd (omega arith);
+        inside = omega arith;
+      };
+  other = λ z. absurd (omega arith);
   params-in = omega arith;
   flat-in = omega arith;
   values-in = omega arith;
   band-in = omega arith;
   poles-in = omega arith;
+  curve-in = omega arith;
   deviations-in = omega arith;
   fresh-in = omega arith;
   firsts-in = omega arith;
 }
 
-pub direction-is : (n p : ℕ) (s w : List Float) → directionOf (ladderJob n p) s w ≡ ladder s p (take n w)
-unfolding directionOf
-direction-is n p s w = let z : 0 + n - 0 ≡ n = omega arith in ap (λ (k : ℕ). ladder s p (take k w)) z
+pub direction-is : (n p : ℕ) (s w : List Float) (index : List ℕ) → directionOf (ladderJob n p) s w index ≡ ladder s p (take n w)
+unfolding directionOf distancesBy deviationsBy withinBy dataPoint ladder
+direction-is n p s w index = let z : 0 + n - 0 ≡ n = omega arith in ap (λ (k : ℕ). ladder s p (take k w)) z
 
 -- ---- with the parameters, or 5
 

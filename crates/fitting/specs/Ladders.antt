@@ -26,9 +26,11 @@ use Rattle.fitting.specs.declared.Fit.{Fit}
 use Rattle.fitting.specs.declared.Room.{Room}
 use Rattle.fitting.specs.declared.Answer.{Answer}
 use Rattle.fitting.specs.declared.Answer.the-variants.{Fitted, Refused}
+use Rattle.fitting.specs.declared.Aim.{Aim}
+use Rattle.fitting.specs.declared.Aim.the-variants.{Count, Within}
 use Rattle.fitting.specs.declared.Call.{Call}
 use Rattle.fitting.specs.declared.Call.the-variants.{Interpolate, Approximate, ApproximateWithin, SearchSpread}
-use Rattle.fitting.specs.Within.{Candidate, Marked, interpolated, chosen, interpolate, fitOnSpread, fitWithin, spreadAlone, fitWithRefinedKnots, passesOnSpread}
+use Rattle.fitting.specs.Within.{Candidate, Marked, interpolated, chosen, interpolate, fitOnSpread, fitWithin, fitWithinFewest, spreadAlone, fitWithRefinedKnots, passesOnSpread}
 use Rattle.fitting.specs.Marks.{unmarked, fitOf}
 use Rattle.fitting.specs.Tolerance.{NoneAbove, Fails}
 
@@ -70,6 +72,11 @@ countVerdict Interpolate n degree = unchosenVerdict n degree
 countVerdict (Approximate count) n degree = chosenVerdict n degree count
 countVerdict (ApproximateWithin t) n degree = unchosenVerdict n degree
 countVerdict (SearchSpread t) n degree = unchosenVerdict n degree
+
+-- the same for one direction of a grid
+unfoldable pub aimVerdict : Aim → ℕ → ℕ → Verdict
+aimVerdict (Count count) n degree = chosenVerdict n degree count
+aimVerdict (Within t) n degree = unchosenVerdict n degree
 
 -- 9, by the lengths of the lent slices
 abbrev pub roomOf : Lent → Room
@@ -126,6 +133,11 @@ fitBy Interpolate d = accepted (interpolated (interpolate d))
 fitBy (Approximate count) d = chosenOr PoleCountMismatch (fitOnSpread d count)
 fitBy (ApproximateWithin t) d = accepted (fitWithin d t)
 fitBy (SearchSpread t) d = accepted (spreadAlone d t)
+
+-- and one direction of a grid
+unfoldable pub fitTo : Aim → Direction → Result
+fitTo (Count count) d = chosenOr PoleCountMismatch (fitOnSpread d count)
+fitTo (Within t) d = accepted (fitWithinFewest d t)
 
 -- with the parameters, or 5 where neighbours are confused
 unfoldable pub fitWith : List Float → ℕ → (Direction → Result) → Option (List Float) → Result

@@ -1,9 +1,10 @@
 -- What a ladder call does after its checks: the regions of a ladder in the lent slices, and the fit that then stands there. Definitions only.
 use mathlib.Core.Path.{_≡_}
 use mathlib.Core.List.{List}
-use Prim.Native.Nat.{ℕ, _+_, _-_, _*_}
+use Prim.Native.Nat.{ℕ, _+_, _-_, _*_, _≤_}
 use lib.ListN.{length}
 use lib.Ieee.{Float}
+use Rattle.places.specs.Regions.{part}
 use Rattle.geometry.specs.Doubles.{largest}
 use Rattle.tables.specs.Layout.{Kept}
 use Rattle.tables.specs.Deviations.{unreadable}
@@ -16,7 +17,7 @@ use Rattle.fitting.specs.declared.Made.the-variants.{Fails, Stands}
 use Rattle.fitting.specs.Within.{Candidate, Marked, refined, spread, interpolated, chosen}
 use Rattle.fitting.specs.Marks.{largestDeviation}
 use Rattle.fitting.specs.Ladders.{Result, refused, accepted}
-use Rattle.fitting.specs.Jobs.{HasKnots, candidateIn}
+use Rattle.fitting.specs.Jobs.{HasKnots, flatIn, polesIn, candidateIn}
 
 -- n points of degree p: the regions one after the other from place 0 on
 abbrev pub ladderJob : ℕ → ℕ → Job
@@ -27,11 +28,13 @@ ladderJob n p =
     let deviations = poles + 3 * n in
     record {
       table = record { degree = p; count = n; firsts = 0; values = values };
-      given = record { kind = 0; lines = 1; across = 0; start = 0 };
+      given = record { kind = 0; lines = 1; across = 0; start = 0; end = 0 };
+      other = record { degree = 0; count = 0; firsts = 0; values = 0 };
       params = 0;
       flat = n;
       band = band;
       poles = poles;
+      curve = deviations;
       deviations = deviations;
       fresh = deviations + n;
     }
@@ -44,18 +47,45 @@ markedAs (Interpolated x) m f = interpolated f
 markedAs (Chosen x) m f = chosen f
 
 -- the fit that stands in the regions
-unfoldable pub standingIn : Job → List Float → List Float → Standing → Marked
-standingIn j points w x = markedAs (x .mark) (x .flat - j .table .degree - 1) (candidateIn j points (x .flat) w)
+unfoldable pub standingIn : Job → List Float → List Float → List ℕ → Standing → Marked
+standingIn j points w index x = markedAs (x .mark) (x .flat - j .table .degree - 1) (candidateIn j points (x .flat) w index)
 
 unfoldable pub madeIn : Made → (Standing → Marked) → Result
 madeIn (Fails c) f = refused c
 madeIn (Stands x) f = accepted (f x)
 
--- What a call makes of the direction in the slices: a refusal; or a fit, which stands there, and what its distances measure.
+-- The fit x stands in the regions, with what its distances measure.
+pub record StandsIn (j : Job) (points w : List Float) (index : List ℕ) (x : Standing) : Type 0 where
+  pub most : largestDeviation (x .mark) ≡ largest (candidateIn j points (x .flat) w index .distances)
+  pub unread : x .unreadable ≡ unreadable (candidateIn j points (x .flat) w index .distances)
+  pub few : HasKnots j (x .flat)
+
+-- What a call makes of the direction in the slices: a refusal; or a fit, which stands there.
 pub record Makes (j : Job) (points : List Float) (fit : Result) (w w′ : List Float) (index index′ : List ℕ) (r : Made) : Type 0 where
-  pub answer : fit ≡ madeIn r (standingIn j points w′)
-  pub most : (x : Standing) → r ≡ Stands x → largestDeviation (x .mark) ≡ largest (candidateIn j points (x .flat) w′ .distances)
-  pub unread : (x : Standing) → r ≡ Stands x → x .unreadable ≡ unreadable (candidateIn j points (x .flat) w′ .distances)
-  pub few : (x : Standing) → r ≡ Stands x → HasKnots j (x .flat)
-  pub firsts : length index′ ≡ length index
-  pub kept : Kept (j .flat) (j .fresh + j .table .count) w w′
+  pub answer : fit ≡ madeIn r (standingIn j points w′ index′)
+  pub standing : (x : Standing) → r ≡ Stands x → StandsIn j points w′ index′ x
+  pub firsts : Kept (j .table .firsts) (j .table .firsts + j .table .count) index index′
+  pub kept : Kept (j .flat) (length w) w w′
+
+-- room for a fit behind the job's regions
+pub record HasSaved (j : Job) (saved : ℕ) (work : List Float) : Type 0 where
+  pub knots-in : j .flat + (j .table .count + j .table .degree + 1) ≤ j .poles
+  pub poles-in : j .poles + 3 * (j .given .lines * j .table .count) ≤ j .fresh
+  pub behind : j .fresh + j .table .count ≤ saved
+  pub room : saved + (j .table .count + j .table .degree + 1) + 3 * (j .given .lines * j .table .count) ≤ length work
+
+-- where a fit on l flat knots ends there
+abbrev pub savedEnd : Job → ℕ → ℕ → ℕ
+savedEnd j l saved = saved + l + 3 * (j .given .lines * (l - j .table .degree - 1))
+
+-- The fit on l flat knots that stands in the regions, saved there.
+pub record Saved (j : Job) (l saved : ℕ) (w w′ : List Float) : Type 0 where
+  pub flat : part saved (saved + l) w′ ≡ flatIn j l w
+  pub poles : part (saved + l) (savedEnd j l saved) w′ ≡ polesIn j l w
+  pub kept : Kept saved (savedEnd j l saved) w w′
+
+-- And the one saved there, in the regions again.
+pub record Restored (j : Job) (l saved : ℕ) (w w′ : List Float) : Type 0 where
+  pub flat : flatIn j l w′ ≡ part saved (saved + l) w
+  pub poles : polesIn j l w′ ≡ part (saved + l) (savedEnd j l saved) w
+  pub kept : Kept (j .flat) saved w w′

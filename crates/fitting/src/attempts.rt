@@ -1,9 +1,43 @@
 // Single fits of a direction: least squares on given or on spread knots, and interpolation. All stands in the job's regions of the lent slices.
 ghost use Prim.Native.Nat.{_≤_, _<_};
-ghost use Rattle.fitting.specs.Jobs.{HasJob, HasKnots, Attempts, AttemptsSpread, PassesThrough};
+ghost use Rattle.tables.specs.Layout.{HasTable};
+ghost use Rattle.fitting.specs.Jobs.{HasJob, HasKnots, Measures, Attempts, AttemptsSpread, PassesThrough};
 use crate::Attempt;
 use crate::Job;
 use tables::Measured;
+use tables::deviations::grid_deviations;
+use tables::deviations::ladder_deviations;
+use tables::deviations::row_deviations;
+
+// The points against the fit of m poles a line that stands in the work: each parameter's deviation in its place, by the kind of the data.
+fn measure(work: &mut [f64], index: &[usize], points: &[f64], job: Job, m: usize) -> Measured
+    requires { ⌜ HasJob job (now points) (now work) (now index) × (HasTable (job .table) m (now work) (now index) × (m ≤ job .table .count)) ⌝ }
+    ensures { λ r. ⌜ Measures job (now (points .entry)) m (now (work .entry)) (now (work .exit)) (now (index .entry)) r ⌝ }
+{
+    let table = job.table;
+    let given = job.given;
+    let poles = job.poles;
+    let out = job.deviations;
+    if given.kind == tables::LADDER {
+        return ladder_deviations(work, index, points, table, m, poles, out);
+    }
+    let lines = given.lines;
+    if given.kind == tables::ROWS {
+        return row_deviations(work, index, points, table, lines, m, poles, out);
+    }
+    grid_deviations(
+        work,
+        index,
+        points,
+        table,
+        job.other,
+        lines,
+        m,
+        poles,
+        job.curve,
+        out,
+    )
+}
 
 // Least squares on the l flat knots that stand in the work: the fit in its place, or none.
 pub fn attempt(work: &mut [f64], index: &mut [usize], points: &[f64], job: Job, l: usize) -> Attempt
@@ -25,15 +59,7 @@ pub fn attempt(work: &mut [f64], index: &mut [usize], points: &[f64], job: Job, 
     ) {
         return Attempt::Unfitted;
     }
-    Attempt::Fitting(tables::deviations::ladder_deviations(
-        work,
-        index,
-        points,
-        table,
-        m,
-        job.poles,
-        job.deviations,
-    ))
+    Attempt::Fitting(measure(work, index, points, job, m))
 }
 
 // Least squares on the spread knots of m poles.
@@ -63,5 +89,5 @@ pub fn pass_through(work: &mut [f64], index: &mut [usize], points: &[f64], job: 
     knots::clamped::averaged_knots(work, job.params, n, table.degree, job.flat);
     tables::basis_table::fill_table(work, index, table, job.flat, end, job.params);
     tables::through::interpolation(work, index, points, table, job.given, job.band, job.poles);
-    tables::deviations::ladder_deviations(work, index, points, table, n, job.poles, job.deviations)
+    measure(work, index, points, job, n)
 }

@@ -24,7 +24,13 @@ pub fn passes(
     let end = start + job.table.count;
     match crate::attempts::attempt_spread(work, index, points, job, m) {
         Attempt::Unfitted => false,
-        Attempt::Fitting(_) => tables::deviations::all_within(&work[start..end], tolerance),
+        Attempt::Fitting(x) => {
+            if job.given.kind == tables::LADDER {
+                tables::deviations::all_within(&work[start..end], tolerance)
+            } else {
+                x.largest <= tolerance
+            }
+        }
     }
 }
 

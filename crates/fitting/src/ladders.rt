@@ -39,11 +39,19 @@ fn ladder_job(n: usize, degree: usize) -> Job
             lines: 1,
             across: 0,
             start: 0,
+            end: 0,
+        },
+        other: Table {
+            degree: 0,
+            count: 0,
+            firsts: 0,
+            values: 0,
         },
         params: 0,
         flat: n,
         band,
         poles,
+        curve: deviations,
         deviations,
         fresh: deviations + n,
     }
@@ -61,9 +69,9 @@ fn hand_made(
     work: &mut [f64],
     index: &mut [usize],
 ) -> Answer
-    requires { ⌜ HasJob job (now points) (now work) (now index) × (countVerdict call (job .table .count) (job .table .degree) ≡ Pass) ⌝ }
+    requires { ⌜ HasJob job (now points) (now work) (now index) × (countVerdict call (job .table .count) (job .table .degree) ≡ Pass) × (job .given .lines ≡ 1) ⌝ }
     requires { ⌜ Roomy (job .table .count) (job .table .degree) (roomOf (lent (now poles) (now flat) (now knots) (now mults) (now work) (now index))) ⌝ }
-    ensures { λ r. ⌜ HandsOut (job .table .degree) (fitBy call (directionOf job (now (points .entry)) (now (work .entry))))
+    ensures { λ r. ⌜ HandsOut (job .table .degree) (fitBy call (directionOf job (now (points .entry)) (now (work .entry)) (now (index .entry))))
         (lent (now (poles .entry)) (now (flat .entry)) (now (knots .entry)) (now (mults .entry)) (now (work .entry)) (now (index .entry)))
         (lent (now (poles .exit)) (now (flat .exit)) (now (knots .exit)) (now (mults .exit)) (now (work .exit)) (now (index .exit))) r ⌝ }
 {

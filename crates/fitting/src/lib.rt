@@ -71,15 +71,17 @@ pub struct Room {
     pub index: usize,
 }
 
-// The fitting of one direction in the lent slices: its table and data, and where the work holds its parameters, its flat knots, the band, the poles,
-// the deviations and new knots.
+// The fitting of one direction in the lent slices: its table and data, for columns the table of the other direction, and where the work holds its
+// parameters, its flat knots, the band, the poles, for columns a curve's poles, the deviations and new knots.
 pub struct Job {
     pub table: Table,
     pub given: Data,
+    pub other: Table,
     pub params: usize,
     pub flat: usize,
     pub band: usize,
     pub poles: usize,
+    pub curve: usize,
     pub deviations: usize,
     pub fresh: usize,
 }
@@ -109,6 +111,12 @@ pub enum Call {
     Approximate(usize),
     ApproximateWithin(f64),
     SearchSpread(f64),
+}
+
+// What one direction of a grid is fitted to: a chosen pole count, or a tolerance with the fewer poles of refinement and the spread search.
+pub enum Aim {
+    Count(usize),
+    Within(f64),
 }
 
 // A fit that stands in its job's regions: its mark, how many flat knots it has, and how many of its deviations are unreadable.

@@ -1,11 +1,15 @@
 // What each call makes of a direction whose parameters stand in the work: a refusal, or a fit that then stands in the job's regions.
 ghost use mathlib.Core.Path.{_≡_};
+ghost use mathlib.Core.Option.{some};
 ghost use Prim.Native.Nat.{_≤_, _<_};
 ghost use Rattle.bspline.specs.declared.Verdict.the-variants.{Pass};
 ghost use Rattle.fitting.specs.declared.Call.the-variants.{Interpolate, Approximate, ApproximateWithin, SearchSpread};
-ghost use Rattle.fitting.specs.Ladders.{countVerdict, fitBy};
-ghost use Rattle.fitting.specs.Jobs.{HasJob, directionOf};
-ghost use Rattle.fitting.specs.Runs.{Makes};
+ghost use Rattle.tables.specs.Measures.{measured};
+ghost use Rattle.fitting.specs.Within.{fewerOr, fitWithinFewest};
+ghost use Rattle.fitting.specs.Ladders.{accepted, aimVerdict, countVerdict, fitTo, fitBy};
+ghost use Rattle.fitting.specs.Jobs.{HasJob, HasKnots, directionOf, candidateIn};
+ghost use Rattle.fitting.specs.Runs.{HasSaved, Saved, Restored, Makes};
+use crate::Aim;
 use crate::Attempt;
 use crate::Call;
 use crate::Job;
@@ -14,11 +18,12 @@ use crate::Mark;
 use crate::Reached;
 use crate::Standing;
 use bspline::Refusal;
+use tables::Measured;
 
 // Through the points.
 fn make_through(work: &mut [f64], index: &mut [usize], points: &[f64], job: Job) -> Made
     requires { ⌜ HasJob job (now points) (now work) (now index) ⌝ }
-    ensures { λ r. ⌜ Makes job (now (points .entry)) (fitBy Interpolate (directionOf job (now (points .entry)) (now (work .entry))))
+    ensures { λ r. ⌜ Makes job (now (points .entry)) (fitBy Interpolate (directionOf job (now (points .entry)) (now (work .entry)) (now (index .entry))))
         (now (work .entry)) (now (work .exit)) (now (index .entry)) (now (index .exit)) r ⌝ }
 {
     let m = crate::attempts::pass_through(work, index, points, job);
@@ -38,7 +43,7 @@ fn make_chosen(
     count: usize,
 ) -> Made
     requires { ⌜ HasJob job (now points) (now work) (now index) × (job .table .degree < count) × (count ≤ job .table .count) ⌝ }
-    ensures { λ r. ⌜ Makes job (now (points .entry)) (fitBy (Approximate count) (directionOf job (now (points .entry)) (now (work .entry))))
+    ensures { λ r. ⌜ Makes job (now (points .entry)) (fitBy (Approximate count) (directionOf job (now (points .entry)) (now (work .entry)) (now (index .entry))))
         (now (work .entry)) (now (work .exit)) (now (index .entry)) (now (index .exit)) r ⌝ }
 {
     match crate::attempts::attempt_spread(work, index, points, job, count) {
@@ -60,7 +65,7 @@ fn make_spread(
     tolerance: f64,
 ) -> Made
     requires { ⌜ HasJob job (now points) (now work) (now index) ⌝ }
-    ensures { λ r. ⌜ Makes job (now (points .entry)) (fitBy (SearchSpread tolerance) (directionOf job (now (points .entry)) (now (work .entry))))
+    ensures { λ r. ⌜ Makes job (now (points .entry)) (fitBy (SearchSpread tolerance) (directionOf job (now (points .entry)) (now (work .entry)) (now (index .entry))))
         (now (work .entry)) (now (work .exit)) (now (index .entry)) (now (index .exit)) r ⌝ }
 {
     let last = job.table.count;
@@ -83,7 +88,7 @@ fn make_within(
     tolerance: f64,
 ) -> Made
     requires { ⌜ HasJob job (now points) (now work) (now index) ⌝ }
-    ensures { λ r. ⌜ Makes job (now (points .entry)) (fitBy (ApproximateWithin tolerance) (directionOf job (now (points .entry)) (now (work .entry))))
+    ensures { λ r. ⌜ Makes job (now (points .entry)) (fitBy (ApproximateWithin tolerance) (directionOf job (now (points .entry)) (now (work .entry)) (now (index .entry))))
         (now (work .entry)) (now (work .exit)) (now (index .entry)) (now (index .exit)) r ⌝ }
 {
     match crate::refining::refine_within(work, index, points, job, tolerance) {
@@ -96,10 +101,106 @@ fn make_within(
     }
 }
 
+// The fit on l flat knots copied behind the job's regions, from place `saved` on.
+fn save_fit(work: &mut [f64], job: Job, l: usize, saved: usize)
+    requires { ⌜ HasSaved job saved (now work) × HasKnots job l ⌝ }
+    ensures { λ _. ⌜ Saved job l saved (now (work .entry)) (now (work .exit)) ⌝ }
+{
+    let m = l - job.table.degree - 1;
+    let places = 3 * (job.given.lines * m);
+    places::copy_within(work, job.flat, l, saved);
+    places::copy_within(work, job.poles, places, saved + l);
+}
+
+// And copied back.
+fn restore_fit(work: &mut [f64], job: Job, l: usize, saved: usize)
+    requires { ⌜ HasSaved job saved (now work) × HasKnots job l ⌝ }
+    ensures { λ _. ⌜ Restored job l saved (now (work .entry)) (now (work .exit)) ⌝ }
+{
+    let m = l - job.table.degree - 1;
+    let places = 3 * (job.given.lines * m);
+    places::copy_within(work, saved, l, job.flat);
+    places::copy_within(work, saved + l, places, job.poles);
+}
+
+// By the spread search below the poles of the refined fit that stands on l flat knots; else that fit.
+fn make_fewer(
+    work: &mut [f64],
+    index: &mut [usize],
+    points: &[f64],
+    job: Job,
+    tolerance: f64,
+    saved: usize,
+    l: usize,
+    refined: Measured,
+) -> Made
+    requires { ⌜ HasJob job (now points) (now work) (now index) × HasSaved job saved (now work) × HasKnots job l
+        × (refined ≡ measured (candidateIn job (now points) l (now work) (now index) .distances)) ⌝ }
+    ensures { λ r. ⌜ Makes job (now (points .entry))
+        (accepted (fewerOr (directionOf job (now (points .entry)) (now (work .entry)) (now (index .entry))) tolerance (some (candidateIn job (now (points .entry)) l (now (work .entry)) (now (index .entry))))))
+        (now (work .entry)) (now (work .exit)) (now (index .entry)) (now (index .exit)) r ⌝ }
+{
+    save_fit(work, job, l, saved);
+    let last = l - job.table.degree - 1;
+    match crate::counts::fit_on_spread_knots(work, index, points, job, tolerance, last) {
+        Reached::Missed => {
+            restore_fit(work, job, l, saved);
+            Made::Stands(Standing {
+                mark: Mark::Refined(refined.largest),
+                flat: l,
+                unreadable: refined.unreadable,
+            })
+        }
+        Reached::Met(k, m) => Made::Stands(Standing {
+            mark: Mark::Spread(m.largest),
+            flat: k,
+            unreadable: m.unreadable,
+        }),
+    }
+}
+
+// By refinement and then the spread search below it (`fit_within_fewest`); else by the spread search.
+fn make_fewest(
+    work: &mut [f64],
+    index: &mut [usize],
+    points: &[f64],
+    job: Job,
+    tolerance: f64,
+    saved: usize,
+) -> Made
+    requires { ⌜ HasJob job (now points) (now work) (now index) × HasSaved job saved (now work) ⌝ }
+    ensures { λ r. ⌜ Makes job (now (points .entry)) (accepted (fitWithinFewest (directionOf job (now (points .entry)) (now (work .entry)) (now (index .entry))) tolerance))
+        (now (work .entry)) (now (work .exit)) (now (index .entry)) (now (index .exit)) r ⌝ }
+{
+    match crate::refining::refine_within(work, index, points, job, tolerance) {
+        Reached::Missed => make_spread(work, index, points, job, tolerance),
+        Reached::Met(l, m) => make_fewer(work, index, points, job, tolerance, saved, l, m),
+    }
+}
+
+// By what a grid's direction is fitted to.
+pub fn make_direction(
+    work: &mut [f64],
+    index: &mut [usize],
+    points: &[f64],
+    job: Job,
+    aim: Aim,
+    saved: usize,
+) -> Made
+    requires { ⌜ HasJob job (now points) (now work) (now index) × HasSaved job saved (now work) × (aimVerdict aim (job .table .count) (job .table .degree) ≡ Pass) ⌝ }
+    ensures { λ r. ⌜ Makes job (now (points .entry)) (fitTo aim (directionOf job (now (points .entry)) (now (work .entry)) (now (index .entry))))
+        (now (work .entry)) (now (work .exit)) (now (index .entry)) (now (index .exit)) r ⌝ }
+{
+    match aim {
+        Aim::Count(count) => make_chosen(work, index, points, job, count),
+        Aim::Within(tolerance) => make_fewest(work, index, points, job, tolerance, saved),
+    }
+}
+
 // By what the call asks for.
 pub fn make(work: &mut [f64], index: &mut [usize], points: &[f64], job: Job, call: Call) -> Made
     requires { ⌜ HasJob job (now points) (now work) (now index) × (countVerdict call (job .table .count) (job .table .degree) ≡ Pass) ⌝ }
-    ensures { λ r. ⌜ Makes job (now (points .entry)) (fitBy call (directionOf job (now (points .entry)) (now (work .entry))))
+    ensures { λ r. ⌜ Makes job (now (points .entry)) (fitBy call (directionOf job (now (points .entry)) (now (work .entry)) (now (index .entry))))
         (now (work .entry)) (now (work .exit)) (now (index .entry)) (now (index .exit)) r ⌝ }
 {
     match call {

@@ -108,29 +108,29 @@ record GridKeptBy (d : Direction) (distances : GridFit → List Float) (t : Floa
   spread-least : (f : GridFit) (x : Float) → r ≡ Fitted f → f .u .mark ≡ Spread x → Fails d t (f .u .poles - 1)
 
 -- ---- an accepted grid
-u-lawful : (g : Grid) (us vs : List Float) (v : Candidate) → Lawful (alongU g us vs v)
+u-lawful : (g : Grid) (us vs : List Float) (v : Candidate) → Lawful (alongU (g .points) (g .shape) us vs v)
 unfolding alongU
 u-lawful g us vs v = columns-lawful (g .points) (basisTable (v .flat) (g .shape .v) vs) (poleCount (g .shape .v) (v .flat)) (v .poles) (g .shape .u) us
 
-v-lawful : (g : Grid) (vs : List Float) → Lawful (alongV g vs)
+v-lawful : (g : Grid) (vs : List Float) → Lawful (alongV (g .points) (g .shape) vs)
 unfolding alongV
 v-lawful g vs = rows-lawful (g .points) (g .shape .rows) (g .shape .v) vs
 
-u-sound : (g : Grid) (us vs : List Float) (v : Candidate) (t : Float) → g .shape .u + 1 ≤ length us → Sound (alongU g us vs v) (fitWithinFewest (alongU g us vs v) t)
+u-sound : (g : Grid) (us vs : List Float) (v : Candidate) (t : Float) → g .shape .u + 1 ≤ length us → Sound (alongU (g .points) (g .shape) us vs v) (fitWithinFewest (alongU (g .points) (g .shape) us vs v) t)
 unfolding alongU gridColumns
-u-sound g us vs v t h = fewest-sound (alongU g us vs v) (u-lawful g us vs v) t h
+u-sound g us vs v t h = fewest-sound (alongU (g .points) (g .shape) us vs v) (u-lawful g us vs v) t h
 
 v-sized : (g : Grid) (vs : List Float) (t : Float) → g .shape .v + 1 ≤ length vs
     → (g .shape .v + 1 ≤ length (unmarked (rowsWithin g t vs) .flat)) × (length (unmarked (rowsWithin g t vs) .flat) ≤ length vs + g .shape .v + 1)
 unfolding rowsWithin alongV gridRows
-v-sized g vs t h = let s = fewest-sound (alongV g vs) (v-lawful g vs) (rowShare ⊗ t) h .sized in (s .low, s .high)
+v-sized g vs t h = let s = fewest-sound (alongV (g .points) (g .shape) vs) (v-lawful g vs) (rowShare ⊗ t) h .sized in (s .low, s .high)
 
 module _ (g : Grid) (t : Float) (l l′ : GridLent) (us vs : List Float) (n : length us ≡ g .shape .rows) (m : length vs ≡ g .shape .cols) (shaped : GridShaped (length (g .points)) (g .shape)) (room : GridRoomy (g .shape) (gridRoomOf l)) (degrees : Degrees (g .shape)) where
   abbrev markedV : Marked
   markedV = rowsWithin g t vs
 
   abbrev alongU′ : Direction
-  alongU′ = alongU g us vs (unmarked markedV)
+  alongU′ = alongU (g .points) (g .shape) us vs (unmarked markedV)
 
   abbrev markedU : Marked
   markedU = fitWithinFewest alongU′ t
@@ -149,7 +149,7 @@ module _ (g : Grid) (t : Float) (l l′ : GridLent) (us vs : List Float) (n : le
 
   module _ (uFlat : l′ .uFlat ≡ laid 0 (length (unmarked markedU .flat)) (at (unmarked markedU .flat)) (l .uFlat))
       (vFlat : l′ .vFlat ≡ laid 0 (length (unmarked markedV .flat)) (at (unmarked markedV .flat)) (l .vFlat))
-      (poles : l′ .poles ≡ laid 0 (length (surfacePoles g (unmarked markedU) (unmarked markedV))) (at (surfacePoles g (unmarked markedU) (unmarked markedV))) (l .poles)) where
+      (poles : l′ .poles ≡ laid 0 (length (surfacePoles (g .shape) (unmarked markedU) (unmarked markedV))) (at (surfacePoles (g .shape) (unmarked markedU) (unmarked markedV))) (l .poles)) where
     -- what stands in the slices is the fit c over v's
     grid-handed : (c : Candidate) → unmarked markedU ≡ c → From alongU′ c → distances-of handedFit ≡ c .distances
     unfolding distances-of fitOf alongU gridColumns surfacePoles
@@ -207,7 +207,7 @@ module _ (g : Grid) (t : Float) (l l′ : GridLent) (us vs : List Float) (n : le
         }
 
 -- ---- each way through
-grid-stopped : (g : Grid) (c : Refusal) (x : GridResult) (r : GridAnswer) → r ≡ gridAnswerOf g (gridChecked (Stop c) x) → r ≡ Refused c
+grid-stopped : (g : Grid) (c : Refusal) (x : GridResult) (r : GridAnswer) → r ≡ gridAnswerOf (g .shape) (gridChecked (Stop c) x) → r ≡ Refused c
 unfolding gridChecked gridAnswerOf
 grid-stopped g c x r e = e
 
@@ -224,24 +224,24 @@ refused-kept g t l′ r c e =
 abbrev withinOf : Grid → Float → Option (List Float) → Option (List Float) → Verdict → GridResult
 withinOf g t o₁ o₂ w = gridFitWith w (fitGridBy (ApproximateWithin t) g) o₁ o₂
 
-u-confused : (g : Grid) (t : Float) (o₂ : Option (List Float)) (k : Verdict) (r : GridAnswer) → r ≡ gridAnswerOf g (gridChecked Pass (withinOf g t none o₂ k)) → r ≡ Refused ConfusedPoints
+u-confused : (g : Grid) (t : Float) (o₂ : Option (List Float)) (k : Verdict) (r : GridAnswer) → r ≡ gridAnswerOf (g .shape) (gridChecked Pass (withinOf g t none o₂ k)) → r ≡ Refused ConfusedPoints
 unfolding gridChecked gridFitWith gridAnswerOf
 u-confused g t o₂ k r e = e
 
-v-confused : (g : Grid) (t : Float) (us : List Float) (k : Verdict) (r : GridAnswer) → r ≡ gridAnswerOf g (gridChecked Pass (withinOf g t (some us) none k)) → r ≡ Refused ConfusedPoints
+v-confused : (g : Grid) (t : Float) (us : List Float) (k : Verdict) (r : GridAnswer) → r ≡ gridAnswerOf (g .shape) (gridChecked Pass (withinOf g t (some us) none k)) → r ≡ Refused ConfusedPoints
 unfolding gridChecked gridFitWith gridAnswerOf
 v-confused g t us k r e = e
 
-counts-stopped : (g : Grid) (t : Float) (us vs : List Float) (c : Refusal) (r : GridAnswer) → r ≡ gridAnswerOf g (gridChecked Pass (withinOf g t (some us) (some vs) (Stop c))) → r ≡ Refused c
+counts-stopped : (g : Grid) (t : Float) (us vs : List Float) (c : Refusal) (r : GridAnswer) → r ≡ gridAnswerOf (g .shape) (gridChecked Pass (withinOf g t (some us) (some vs) (Stop c))) → r ≡ Refused c
 unfolding gridChecked gridFitWith gridAnswerOf
 counts-stopped g t us vs c r e = e
 
 module _ (g : Grid) (t : Float) (l l′ : GridLent) (r : GridAnswer) where
   passed-kept : (us vs : List Float) → uParameters g ≡ some us → vParameters g ≡ some vs → GridShaped (length (g .points)) (g .shape) → GridRoomy (g .shape) (gridRoomOf l) → Degrees (g .shape)
-      → r ≡ gridAnswerOf g (gridChecked Pass (withinOf g t (some us) (some vs) Pass))
+      → r ≡ gridAnswerOf (g .shape) (gridChecked Pass (withinOf g t (some us) (some vs) Pass))
       → l′ .uFlat ≡ gridHanded (λ u v. length (u .flat)) (λ u v. at (u .flat)) (gridChecked Pass (withinOf g t (some us) (some vs) Pass)) (l .uFlat)
       → l′ .vFlat ≡ gridHanded (λ u v. length (v .flat)) (λ u v. at (v .flat)) (gridChecked Pass (withinOf g t (some us) (some vs) Pass)) (l .vFlat)
-      → l′ .poles ≡ gridHanded (λ u v. length (surfacePoles g u v)) (λ u v. at (surfacePoles g u v)) (gridChecked Pass (withinOf g t (some us) (some vs) Pass)) (l .poles)
+      → l′ .poles ≡ gridHanded (λ u v. length (surfacePoles (g .shape) u v)) (λ u v. at (surfacePoles (g .shape) u v)) (gridChecked Pass (withinOf g t (some us) (some vs) Pass)) (l .poles)
       → GridKept g t l′ r
   unfolding gridChecked gridFitWith fitGridBy gridAnswerOf gridHanded distances-of
   passed-kept us vs p q shaped room degrees a b c d =
@@ -258,10 +258,10 @@ module _ (g : Grid) (t : Float) (l l′ : GridLent) (r : GridAnswer) where
   kept-by-call call = go (gridChecks g (gridRoomOf l)) refl (uParameters g) refl (vParameters g) refl (countsVerdict (ApproximateWithin t) (g .shape)) refl (call .hands .answer) (call .hands .uFlat) (call .hands .vFlat) (call .hands .poles)
     where
       go : (w : Verdict) → gridChecks g (gridRoomOf l) ≡ w → (o₁ : Option (List Float)) → uParameters g ≡ o₁ → (o₂ : Option (List Float)) → vParameters g ≡ o₂ → (k : Verdict) → countsVerdict (ApproximateWithin t) (g .shape) ≡ k
-          → r ≡ gridAnswerOf g (gridChecked w (withinOf g t o₁ o₂ k))
+          → r ≡ gridAnswerOf (g .shape) (gridChecked w (withinOf g t o₁ o₂ k))
           → l′ .uFlat ≡ gridHanded (λ u v. length (u .flat)) (λ u v. at (u .flat)) (gridChecked w (withinOf g t o₁ o₂ k)) (l .uFlat)
           → l′ .vFlat ≡ gridHanded (λ u v. length (v .flat)) (λ u v. at (v .flat)) (gridChecked w (withinOf g t o₁ o₂ k)) (l .vFlat)
-          → l′ .poles ≡ gridHanded (λ u v. length (surfacePoles g u v)) (λ u v. at (surfacePoles g u v)) (gridChecked w (withinOf g t o₁ o₂ k)) (l .poles)
+          → l′ .poles ≡ gridHanded (λ u v. length (surfacePoles (g .shape) u v)) (λ u v. at (surfacePoles (g .shape) u v)) (gridChecked w (withinOf g t o₁ o₂ k)) (l .poles)
           → GridKept g t l′ r
       go (Stop c) e o₁ e₁ o₂ e₂ k e₃ a f h p = refused-kept g t l′ r c (grid-stopped g c (withinOf g t o₁ o₂ k) r a)
       go Pass e none e₁ o₂ e₂ k e₃ a f h p = refused-kept g t l′ r ConfusedPoints (u-confused g t o₂ k r a)

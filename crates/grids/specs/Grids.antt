@@ -52,6 +52,13 @@ pub record GridLent : Type 0 where
   pub work : List Float
   pub index : List ℕ
 
+abbrev pub gridOf : List Float → Shape → Spacing → Grid
+gridOf points shape spacing = record { points = points; shape = shape; spacing = spacing }
+
+abbrev pub gridLent : List Float → List Float → List Float → List ℕ → List Float → List Float → List ℕ → List Float → List ℕ → GridLent
+gridLent poles uFlat uKnots uMults vFlat vKnots vMults work index =
+    record { poles = poles; uFlat = uFlat; uKnots = uKnots; uMults = uMults; vFlat = vFlat; vKnots = vKnots; vMults = vMults; work = work; index = index }
+
 -- ---- the checks up to 10, which leave every slice as lent, in document 01's order: 8, 2 (u, then v), 1, 6 for length, 9, 10
 
 -- 8, 2, 1, 6, by the number of the points' places
@@ -139,12 +146,12 @@ abbrev pub vParameters : Grid → Option (List Float)
 vParameters g = sharedParameters (g .spacing) (g .shape .rows) (g .shape .cols) (rowPoint (g .points) (g .shape .cols))
 
 -- the rows, along v; and along u, over the fit of the rows
-unfoldable pub alongV : Grid → List Float → Direction
-alongV g vParams = gridRows (g .points) (g .shape .rows) (g .shape .v) vParams
+unfoldable pub alongV : List Float → Shape → List Float → Direction
+alongV s h vParams = gridRows s (h .rows) (h .v) vParams
 
-unfoldable pub alongU : Grid → List Float → List Float → Candidate → Direction
-alongU g uParams vParams v =
-    gridColumns (g .points) (basisTable (v .flat) (g .shape .v) vParams) (poleCount (g .shape .v) (v .flat)) (v .poles) (g .shape .u) uParams
+unfoldable pub alongU : List Float → Shape → List Float → List Float → Candidate → Direction
+alongU s h uParams vParams v =
+    gridColumns s (basisTable (v .flat) (h .v) vParams) (poleCount (h .v) (v .flat)) (v .poles) (h .u) uParams
 
 -- with chosen pole counts: spread knots and least squares along v, then along u
 unfoldable pub chosenU : Marked → Option Candidate → GridResult
@@ -153,21 +160,21 @@ chosenU v (some u) = gridAccepted (chosen u) v
 
 unfoldable pub chosenV : Grid → ℕ → List Float → List Float → Option Candidate → GridResult
 chosenV g uCount uParams vParams none = gridRefused PoleCountMismatch
-chosenV g uCount uParams vParams (some v) = chosenU (chosen v) (fitOnSpread (alongU g uParams vParams v) uCount)
+chosenV g uCount uParams vParams (some v) = chosenU (chosen v) (fitOnSpread (alongU (g .points) (g .shape) uParams vParams v) uCount)
 
 -- within a tolerance: the rows within 0.8 of it along v, then the whole grid within it along u
 abbrev pub rowShare : Float
 rowShare = ofBits binary64 0x3fe9_9999_9999_999a
 
 unfoldable pub rowsWithin : Grid → Float → List Float → Marked
-rowsWithin g t vParams = fitWithinFewest (alongV g vParams) (rowShare ⊗ t)
+rowsWithin g t vParams = fitWithinFewest (alongV (g .points) (g .shape) vParams) (rowShare ⊗ t)
 
 -- the two calls, on a grid with its parameters along u and along v
 unfoldable pub fitGridBy : Call → Grid → List Float → List Float → GridResult
-fitGridBy (Approximate uCount vCount) g uParams vParams = chosenV g uCount uParams vParams (fitOnSpread (alongV g vParams) vCount)
+fitGridBy (Approximate uCount vCount) g uParams vParams = chosenV g uCount uParams vParams (fitOnSpread (alongV (g .points) (g .shape) vParams) vCount)
 fitGridBy (ApproximateWithin t) g uParams vParams =
     let v = rowsWithin g t vParams in
-    gridAccepted (fitWithinFewest (alongU g uParams vParams (unmarked v)) t) v
+    gridAccepted (fitWithinFewest (alongU (g .points) (g .shape) uParams vParams (unmarked v)) t) v
 
 -- 3 and 4 along u, then along v, with chosen pole counts; 3 without
 unfoldable pub countsVerdict : Call → Shape → Verdict
@@ -195,9 +202,9 @@ gridResultOf call g l = gridChecked (gridChecks g (gridRoomOf l)) (gridFit call 
 -- ---- what is handed back
 
 -- the answer
-unfoldable pub gridAnswerOf : Grid → GridResult → GridAnswer
-gridAnswerOf g (gridRefused c) = Refused c
-gridAnswerOf g (gridAccepted u v) = Fitted (record { u = fitOf (g .shape .u) u; v = fitOf (g .shape .v) v })
+unfoldable pub gridAnswerOf : Shape → GridResult → GridAnswer
+gridAnswerOf h (gridRefused c) = Refused c
+gridAnswerOf h (gridAccepted u v) = Fitted (record { u = fitOf (h .u) u; v = fitOf (h .v) v })
 
 -- document 01's number of an answer and of a result: 0 where it is a fit
 unfoldable pub gridAnswerNumber : GridAnswer → ℕ
@@ -209,8 +216,8 @@ gridResultNumber (gridAccepted u v) = 0
 gridResultNumber (gridRefused c) = numberOf c
 
 -- the surface's poles, row after row: u's poles come column after column
-unfoldable pub surfacePoles : Grid → Candidate → Candidate → List Float
-surfacePoles g u v = transposed (poleCount (g .shape .v) (v .flat)) (poleCount (g .shape .u) (u .flat)) (u .poles)
+unfoldable pub surfacePoles : Shape → Candidate → Candidate → List Float
+surfacePoles h u v = transposed (poleCount (h .v) (v .flat)) (poleCount (h .u) (u .flat)) (u .poles)
 
 -- an output slice: as lent after a refusal, else f's values in its first n places, and the places beyond as lent
 unfoldable pub gridHanded : {A : Type 0} → (Candidate → Candidate → ℕ) → (Candidate → Candidate → ℕ → A) → GridResult → List A → List A
@@ -218,9 +225,9 @@ gridHanded n f (gridRefused c) xs = xs
 gridHanded n f (gridAccepted u v) xs = laid 0 (n (unmarked u) (unmarked v)) (f (unmarked u) (unmarked v)) xs
 
 -- the answer and the output slices. The slices are l as lent and l′ at exit.
-pub record HandsOutGrid (g : Grid) (fit : GridResult) (l l′ : GridLent) (r : GridAnswer) : Type 0 where
-  pub answer : r ≡ gridAnswerOf g fit
-  pub poles : l′ .poles ≡ gridHanded (λ u v. length (surfacePoles g u v)) (λ u v. at (surfacePoles g u v)) fit (l .poles)
+pub record HandsOutGrid (h : Shape) (fit : GridResult) (l l′ : GridLent) (r : GridAnswer) : Type 0 where
+  pub answer : r ≡ gridAnswerOf h fit
+  pub poles : l′ .poles ≡ gridHanded (λ u v. length (surfacePoles h u v)) (λ u v. at (surfacePoles h u v)) fit (l .poles)
   pub uFlat : l′ .uFlat ≡ gridHanded (λ u v. length (u .flat)) (λ u v. at (u .flat)) fit (l .uFlat)
   pub uKnots : l′ .uKnots ≡ gridHanded (λ u v. distinctKnots (u .flat)) (λ u v. knotAt (u .flat)) fit (l .uKnots)
   pub uMults : l′ .uMults ≡ gridHanded (λ u v. distinctKnots (u .flat)) (λ u v. multiplicityAt (u .flat)) fit (l .uMults)
@@ -230,7 +237,7 @@ pub record HandsOutGrid (g : Grid) (fit : GridResult) (l l′ : GridLent) (r : G
 
 -- The contract of a grid call.
 pub record GridCall (call : Call) (g : Grid) (l l′ : GridLent) (r : GridAnswer) : Type 0 where
-  pub hands : HandsOutGrid g (gridResultOf call g l) l l′ r
+  pub hands : HandsOutGrid (g .shape) (gridResultOf call g l) l l′ r
   pub number : gridAnswerNumber r ≡ gridResultNumber (gridResultOf call g l)
   pub work : l′ .work ≡ cleared nought (gridChecks g (gridRoomOf l)) (l .work)
   pub index : l′ .index ≡ cleared 0 (gridChecks g (gridRoomOf l)) (l .index)
@@ -254,7 +261,7 @@ module _ (g : Grid) (t : Float) where
       (g .points)
 
   abbrev pub uDirection : Direction
-  uDirection = alongU g uParams vParams (unmarked (rowsWithin g t vParams))
+  uDirection = alongU (g .points) (g .shape) uParams vParams (unmarked (rowsWithin g t vParams))
 
   pub record GridKept (l′ : GridLent) (r : GridAnswer) : Type 0 where
     pub refined-within : (f : GridFit) (x : Float) → r ≡ Fitted f → f .u .mark ≡ Refined x → NoneAbove t (gridHandedDistances f l′)

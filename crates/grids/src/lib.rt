@@ -1,6 +1,8 @@
 // Grid fits: document 01, part 4.
 pub mod checks;
+pub mod jobs;
 pub mod output;
+pub mod surfaces;
 
 use bspline::Refusal;
 use fitting::Fit;

@@ -1,2 +1,3 @@
 -- The laws of what is told to C.
 pub mod ToldLaws
+pub mod ToldGridLaws

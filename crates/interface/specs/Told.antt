@@ -2,7 +2,7 @@
 use mathlib.Core.Path.{_≡_}
 use mathlib.Core.Bool.{Bool, cond, not, _&&_}
 use mathlib.Core.List.{List, []}
-use Prim.Native.Nat.{ℕ}
+use Prim.Native.Nat.{ℕ, _+_}
 use lib.Dec.{eqb, ltb}
 use lib.ListN.{length, set}
 use lib.Ieee.{Float}
@@ -14,6 +14,7 @@ use Rattle.bspline.specs.Reader.{readingNumber}
 use Rattle.knots.specs.declared.Spacing.{Spacing}
 use Rattle.knots.specs.declared.Spacing.the-variants.{Chordal, Centripetal}
 use Rattle.fitting.specs.declared.Call.{Call}
+use Rattle.fitting.specs.declared.Fit.{Fit}
 use Rattle.fitting.specs.declared.Answer.{Answer}
 use Rattle.fitting.specs.declared.Answer.the-variants.{Fitted, Refused}
 use Rattle.fitting.specs.Marks.{largestDeviation, markNumber}
@@ -34,6 +35,10 @@ nothing = lent [] [] [] [] [] []
 abbrev pub judged : Lent → List Float → List ℕ → Lent
 judged l largest counts = cond (tellable largest counts) l nothing
 
+-- a fit's mark and counts in the four places from k on
+abbrev pub putFit : ℕ → Fit → List ℕ → List ℕ
+putFit k f xs = set (set (set (set xs k (markNumber (f .mark))) (k + 1) (f .poles)) (k + 2) (f .knots)) (k + 3) (f .unreadable)
+
 -- what is told of an answer
 abbrev pub toldLargest : Answer → List Float → List Float
 toldLargest (Refused c) xs = xs
@@ -41,7 +46,7 @@ toldLargest (Fitted f) xs = set xs 0 (largestDeviation (f .mark))
 
 abbrev pub toldCounts : Answer → List ℕ → List ℕ
 toldCounts (Refused c) xs = xs
-toldCounts (Fitted f) xs = set (set (set (set xs 0 (markNumber (f .mark))) 1 (f .poles)) 2 (f .knots)) 3 (f .unreadable)
+toldCounts (Fitted f) xs = putFit 0 f xs
 
 -- What a ladder call for C leaves, judged by the slices m.
 pub record ToldBy (m : Lent) (call : Call) (s : List Float) (degree : ℕ) (v : Spacing) (l l′ : Lent) (largest largest′ : List Float) (counts counts′ : List ℕ) (r : ℕ) : Type 0 where

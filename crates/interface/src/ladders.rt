@@ -1,23 +1,40 @@
 // The ladder calls.
 ghost use mathlib.Core.Path.{_≡_};
-ghost use Prim.Native.Nat.{_≤_};
-ghost use lib.ListN.{length};
+ghost use Prim.Native.Nat.{_+_, _≤_, _<_};
+ghost use lib.ListN.{length, set};
 ghost use Rattle.fitting.specs.declared.Call.the-variants.{Interpolate, Approximate, ApproximateWithin, SearchSpread};
+ghost use Rattle.fitting.specs.Marks.{largestDeviation};
 ghost use Rattle.fitting.specs.Ladders.{lent, answerNumber, resultNumber, resultOf};
-ghost use Rattle.interface.specs.Told.{spacingOf, toldLargest, toldCounts, nothing, Told};
+ghost use Rattle.interface.specs.Told.{spacingOf, putFit, toldLargest, toldCounts, nothing, Told};
 use bspline::Verdict;
 use fitting::Answer;
 use fitting::Call;
+use fitting::Fit;
 use fitting::Room;
 use knots::Spacing;
 
-fn spacing_of(number: usize) -> Spacing
+// 0 is chordal, any other number centripetal.
+pub fn spacing_of(number: usize) -> Spacing
     ensures { λ r. ⌜ r ≡ spacingOf number ⌝ }
 {
     if number == 0 {
         return Spacing::Chordal;
     }
     Spacing::Centripetal
+}
+
+// A fit's largest deviation in place j of `largest`, and its mark and counts in the four places of `counts` from k on.
+pub fn tell_fit(fit: Fit, largest: &mut [f64], j: usize, counts: &mut [usize], k: usize)
+    requires { ⌜ (j < length (now largest)) × (k + 4 ≤ length (now counts)) ⌝ }
+    ensures { λ _. ⌜ now (largest .exit) ≡ set (now (largest .entry)) j (largestDeviation (fit .mark)) ⌝ }
+    ensures { λ _. ⌜ now (counts .exit) ≡ putFit k fit (now (counts .entry)) ⌝ }
+{
+    let mark = fit.mark;
+    largest[j] = mark.deviation();
+    counts[k] = mark.kind();
+    counts[k + 1] = fit.poles;
+    counts[k + 2] = fit.knots;
+    counts[k + 3] = fit.unreadable;
 }
 
 // The number of an answer, with the mark and the counts of a fit in the lent slices.
@@ -30,12 +47,7 @@ fn tell(answer: Answer, largest: &mut [f64], counts: &mut [usize]) -> u32
     match answer {
         Answer::Refused(c) => c.number(),
         Answer::Fitted(f) => {
-            let mark = f.mark;
-            largest[0] = mark.deviation();
-            counts[0] = mark.kind();
-            counts[1] = f.poles;
-            counts[2] = f.knots;
-            counts[3] = f.unreadable;
+            tell_fit(f, largest, 0, counts, 0);
             0
         }
     }

@@ -56,13 +56,14 @@ pub extern "C" fn pieces_least_squares(
     lines: usize,
     across: usize,
     start: usize,
+    end: usize,
     m: usize,
     band: usize,
     poles: usize,
 ) -> bool
-    requires { ⌜ HasSquares (tableOf degree count firsts values) (dataOf kind lines across start) m band poles (now points) (now work) (now index) ⌝ }
+    requires { ⌜ HasSquares (tableOf degree count firsts values) (dataOf kind lines across start end) m band poles (now points) (now work) (now index) ⌝ }
     ensures { λ r. ⌜ Squared (leastSquares (tableIn (tableOf degree count firsts values) (now (work .entry)) (now (index .entry))) m lines
-        (dataPoint (dataOf kind lines across start) (now (points .entry)) (now (work .entry)))) (3 * (lines * m)) band poles (now (work .entry)) (now (work .exit)) r ⌝ }
+        (dataPoint (dataOf kind lines across start end) (now (points .entry)) (now (work .entry)))) (3 * (lines * m)) band poles (now (work .entry)) (now (work .exit)) r ⌝ }
 {
     let table = Table {
         degree: degree,
@@ -75,6 +76,7 @@ pub extern "C" fn pieces_least_squares(
         lines: lines,
         across: across,
         start: start,
+        end: end,
     };
     tables::squares::least_squares(work, index, points, table, given, m, band, poles)
 }
@@ -92,11 +94,12 @@ pub extern "C" fn pieces_interpolation(
     lines: usize,
     across: usize,
     start: usize,
+    end: usize,
     band: usize,
     poles: usize,
 )
-    requires { ⌜ Interpolates (tableOf degree count firsts values) (dataOf kind lines across start) band poles (now points) (now work) (now index) ⌝ }
-    ensures { λ _. ⌜ Interpolated (tableOf degree count firsts values) (dataOf kind lines across start) band poles (now (points .entry)) (now (index .entry)) (now (work .entry)) (now (work .exit)) ⌝ }
+    requires { ⌜ Interpolates (tableOf degree count firsts values) (dataOf kind lines across start end) band poles (now points) (now work) (now index) ⌝ }
+    ensures { λ _. ⌜ Interpolated (tableOf degree count firsts values) (dataOf kind lines across start end) band poles (now (points .entry)) (now (index .entry)) (now (work .entry)) (now (work .exit)) ⌝ }
 {
     let table = Table {
         degree: degree,
@@ -109,6 +112,7 @@ pub extern "C" fn pieces_interpolation(
         lines: lines,
         across: across,
         start: start,
+        end: end,
     };
     tables::through::interpolation(work, index, points, table, given, band, poles);
 }

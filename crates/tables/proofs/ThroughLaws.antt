@@ -183,7 +183,7 @@ lines-turn poles band end h n r d points w w₁ w₂ x i one j k m e₁ e₂ =
     let row : lineThrough h n (part band end w₁) (dataPoint d points w₁ r) ≡ f r =
     ap (λ (b : List Float). lineThrough h n b (dataPoint d points w₁ r)) (kept-part poles (poles + r * (3 * n)) w w₁ kept band end j k)
     ∙ line-same h n (part band end w) (dataPoint d points w₁ r) (dataPoint d points w r) one
-    (λ q l. kept-point poles (poles + r * (3 * n)) w w₁ kept d points r q (λ g. let b = pole-below d n band points w x r q i l g in omega (arith, b))) in
+    (λ q l. kept-point poles (poles + r * (3 * n)) w w₁ kept d points r q (λ g. let b = pole-below d n band points w x r q i l g in (b .0, omega (arith, b .1)))) in
     let on : poles + r * (3 * n) + 3 * n ≡ poles + (r + 1) * (3 * n) = omega arith in
     let last : splice poles (poles + r * (3 * n) + 3 * n) (joined r f ++ f r) w ≡ splice poles (poles + (r + 1) * (3 * n)) (joined (r + 1) f) w = rw (on, joined-more r f) in
     e₂

@@ -25,12 +25,12 @@ tableIn t work index = record {
 
 -- point k of line r of the data: a ladder's and a grid's rows stand in the points, the columns' row poles in the work
 unfoldable pub dataPoint : Data → List Float → List Float → ℕ → ℕ → Point
-dataPoint d points work r k =
-    cond (eqb (d .kind) 0) (ladderPoint points r k)
-    (cond (eqb (d .kind) 1) (rowPoint points (d .across) r k) (columnPoint (drop (d .start) work) (d .across) r k))
+dataPoint d points work =
+    cond (eqb (d .kind) 0) (ladderPoint points)
+    (cond (eqb (d .kind) 1) (rowPoint points (d .across)) (columnPoint (part (d .start) (d .end) work) (d .across)))
 
 -- only the places from a to e - 1 may have changed
-pub record Kept (a e : ℕ) (w w′ : List Float) : Type 0 where
+pub record Kept {A : Type 0} (a e : ℕ) (w w′ : List A) : Type 0 where
   pub long : length w′ ≡ length w
   pub front : take a w′ ≡ take a w
   pub back : drop e w′ ≡ drop e w
@@ -52,7 +52,7 @@ pub record HasData (d : Data) (n below : ℕ) (points work : List Float) : Type 
   pub few : d .lines ≤ 64
   pub ladder : d .kind ≡ 0 → (d .lines ≡ 1) × (3 * n ≤ length points)
   pub rows : d .kind ≡ 1 → (d .across ≡ n) × (3 * (d .lines * d .across) ≤ length points)
-  pub columns : d .kind ≡ 2 → (d .across ≡ d .lines) × (d .start + 3 * (n * d .across) ≤ below)
+  pub columns : d .kind ≡ 2 → (d .across ≡ d .lines) × ((d .end ≡ d .start + 3 * (n * d .across)) × (d .end ≤ below))
   pub inside : below ≤ length work
 
 -- What the making of a table asks: the flat knots stand at flat..end, the parameters from `params` on, and the table's values behind both.
@@ -67,7 +67,7 @@ pub record FillsTable (t : Table) (flat end params : ℕ) (work : List Float) (i
 pub record HasPoint (d : Data) (r k : ℕ) (points work : List Float) : Type 0 where
   pub ladder : d .kind ≡ 0 → 3 * k + 3 ≤ length points
   pub rows : d .kind ≡ 1 → 3 * (r * d .across + k) + 3 ≤ length points
-  pub columns : 2 ≤ d .kind → d .start + (3 * (k * d .across + r) + 3) ≤ length work
+  pub columns : 2 ≤ d .kind → (d .start + (3 * (k * d .across + r) + 3) ≤ d .end) × (d .end ≤ length work)
 
 -- What a least-squares fit asks: the table and the data stand before the band, and the m poles of each line behind it.
 pub record HasSquares (t : Table) (d : Data) (m band poles : ℕ) (points work : List Float) (index : List ℕ) : Type 0 where

@@ -20,5 +20,6 @@ pub fn data_point(points: &[f64], work: &[f64], given: Data, r: usize, k: usize)
         return geometry::point_at(points, r * across + k);
     }
     let start = given.start;
-    geometry::point_at(&work[start..], k * across + r)
+    let end = given.end;
+    geometry::point_at(&work[start..end], k * across + r)
 }

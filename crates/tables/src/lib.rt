@@ -21,12 +21,14 @@ pub struct Table {
     pub values: usize,
 }
 
-// Lines of data: their kind and number, how many points stand across, and for columns the place in the work where the row poles start.
+// Lines of data: their kind and number, how many points stand across, and for columns the places in the work from `start` to `end` - 1 where the row poles
+// stand.
 pub struct Data {
     pub kind: usize,
     pub lines: usize,
     pub across: usize,
     pub start: usize,
+    pub end: usize,
 }
 
 // What is made of distances: the largest, folded from 0 with NaN passed over, and how many are NaN.

@@ -1,6 +1,6 @@
 -- Fill the table, solve behind it, measure behind that: each step reads what stands before its own region, so the fit is the definition's. Assumes nothing.
 use borrow.Author.Tests.{not-true, not-false}
-use Rattle.fitting.proofs.AttemptLaws.{has-squares, has-fit, unfitted, fitting}
+use Rattle.fitting.proofs.AttemptLaws.{has-squares, measurable, unfitted, fitting}
 use borrow.Author.Needs.{needs}
 use Rattle.fitting.proofs.attempts.attempt.Statement.{statement}
 use Rattle.fitting.proofs.attempts.attempt.Tie as tie
@@ -38,13 +38,13 @@ returns c =
     let q = c .before .before .before .least-squares in
     unfitted (a .job) (a .points .now) (a .work .now) (a .index .now) (s .pre .0) (a .l) (s .pre .1) (f .last .0) (f .last .1 .0) (f .ensures .0) (f .ensures .1) (q .last .0) (rw (not-true (q .result) (c .if1 .taken)) at (q .ensures))
 
-ladder-deviations-requires : tie.Need-ladder-deviations-requires
-ladder-deviations-requires c κs =
+measure-requires : tie.Need-measure-requires
+measure-requires c κs =
     let s = c .before .before .before .before .before .before .before .before .before .before .before .before .before .before .before .before .before .before .before .before .before in
     let a = s .args in
     let f = c .before .before .before .before .before .before .before .before .before .before .before .before .fill-table in
     let q = c .before .before .before .before .before .least-squares in
-    (has-fit (a .job) (a .points .now) (a .work .now) (a .index .now) (s .pre .0) (a .l) (s .pre .1) (f .last .0) (f .last .1 .0) (f .ensures .0) (f .ensures .1) (q .last .0) (q .ensures .kept), s .pre .0 .points-in)
+    measurable (a .job) (a .points .now) (a .work .now) (a .index .now) (s .pre .0) (a .l) (s .pre .1) (f .last .0) (f .last .1 .0) (f .ensures .0) (f .ensures .1) (q .last .0) (q .ensures .kept)
 
 same-length-3 : tie.Need-same-length-3
 same-length-3 c = search needs
@@ -58,8 +58,8 @@ returns-2 c =
     let a = s .args in
     let f = c .before .before .before .before .before .before .before .before .before .before .before .before .before .before .before .fill-table in
     let q = c .before .before .before .before .before .before .before .before .least-squares in
-    let g = c .before .before .ladder-deviations in
-    fitting (a .job) (a .points .now) (a .work .now) (a .index .now) (s .pre .0) (a .l) (s .pre .1) (f .last .0) (f .last .1 .0) (f .ensures .0) (f .ensures .1) (q .last .0) (rw (not-false (q .result) (c .before .before .before .before .before .if1 .left)) at (q .ensures)) (g .last .0) (g .result) (g .ensures .0) (g .ensures .1)
+    let g = c .before .before .measure in
+    fitting (a .job) (a .points .now) (a .work .now) (a .index .now) (s .pre .0) (a .l) (s .pre .1) (f .last .0) (f .last .1 .0) (f .ensures .0) (f .ensures .1) (q .last .0) (rw (not-false (q .result) (c .before .before .before .before .before .if1 .left)) at (q .ensures)) (g .last .0) (g .result) (g .ensures)
 
 pub attempt-spec : {M : Type 1} → statement M
 attempt-spec =
@@ -73,7 +73,7 @@ attempt-spec =
     same-length
     same-length-2
     returns
-    ladder-deviations-requires
+    measure-requires
     same-length-3
     same-length-4
     returns-2)

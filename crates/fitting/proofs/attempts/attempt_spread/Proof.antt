@@ -1,5 +1,5 @@
 -- The knots are put behind the parameters, and the attempt on them writes only behind the knots. Assumes nothing.
-use Rattle.fitting.proofs.AttemptLaws.{attempts-spread}
+use Rattle.fitting.proofs.AttemptLaws.{spread-attempt, attempts-spread}
 use borrow.Author.Needs.{needs}
 use Rattle.fitting.proofs.attempts.attempt_spread.Statement.{statement}
 use Rattle.fitting.proofs.attempts.attempt_spread.Tie as tie
@@ -14,7 +14,11 @@ add-attempt-2 : tie.Need-add-attempt-2
 add-attempt-2 c = search needs
 
 attempt-requires : tie.Need-attempt-requires
-attempt-requires c κs = search needs
+attempt-requires c κs =
+    let s = c .before .before .before .before .before .before .before .before .before .before .before in
+    let a = s .args in
+    let k = c .before .before .before .before .before .approximation-knots in
+    spread-attempt (a .job) (a .points .now) (a .work .now) (a .index .now) (s .pre .0) (a .m) (s .pre .1) (s .pre .2) (k .last .0) (k .ensures)
 
 same-length : tie.Need-same-length
 same-length c = search needs

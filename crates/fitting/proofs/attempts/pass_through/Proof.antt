@@ -1,8 +1,9 @@
 -- The knots stand behind the parameters, the table behind the knots, the poles behind the table, and the deviations last: each step leaves what it reads. Assumes nothing.
-use Rattle.fitting.proofs.AttemptLaws.{through-requires, through-fit, passes}
+use Rattle.fitting.proofs.AttemptLaws.{through-requires, through-measures, passes}
 use borrow.Author.Needs.{needs}
 use Rattle.fitting.proofs.attempts.pass_through.Statement.{statement}
 use Rattle.fitting.proofs.attempts.pass_through.Tie as tie
+use Rattle.fitting.proofs.attempts.pass_through.Reads as reads
 
 add-end : tie.Need-add-end
 add-end c = search needs
@@ -27,14 +28,14 @@ interpolation-requires c κs =
     let f = c .before .before .before .before .before .before .fill-table in
     through-requires (a .job) (a .points .now) (a .work .now) (a .index .now) (s .pre) (k .last .0) (k .ensures) (f .last .0) (f .last .1 .0) (f .ensures .0) (f .ensures .1)
 
-ladder-deviations-requires : tie.Need-ladder-deviations-requires
-ladder-deviations-requires c κs =
+measure-requires : tie.Need-measure-requires
+measure-requires c κs =
     let s = c .before .before .before .before .before .before .before .before .before .before .before .before .before .before .before .before .before .before .before .before .before .before .before .before in
     let a = s .args in
     let k = c .before .before .before .before .before .before .before .before .before .before .before .before .before .before .before .before .averaged-knots in
     let f = c .before .before .before .before .before .before .before .before .before .before .before .fill-table in
     let q = c .before .before .before .before .interpolation in
-    (through-fit (a .job) (a .points .now) (a .work .now) (a .index .now) (s .pre) (k .last .0) (k .ensures) (f .last .0) (f .last .1 .0) (f .ensures .0) (f .ensures .1) (q .last .0) (q .ensures), s .pre .points-in)
+    through-measures (a .job) (a .points .now) (a .work .now) (a .index .now) (s .pre) (k .last .0) (k .ensures) (f .last .0) (f .last .1 .0) (f .ensures .0) (f .ensures .1) (q .last .0) (q .ensures)
 
 same-length : tie.Need-same-length
 same-length c = search needs
@@ -49,8 +50,8 @@ returns c =
     let k = c .before .before .before .before .before .before .before .before .before .before .before .before .before .before .before .before .before .before .before .averaged-knots in
     let f = c .before .before .before .before .before .before .before .before .before .before .before .before .before .before .fill-table in
     let q = c .before .before .before .before .before .before .before .interpolation in
-    let g = c .before .before .ladder-deviations in
-    passes (a .job) (a .points .now) (a .work .now) (a .index .now) (s .pre) (k .last .0) (k .ensures) (f .last .0) (f .last .1 .0) (f .ensures .0) (f .ensures .1) (q .last .0) (q .ensures) (g .last .0) (g .result) (g .ensures .0) (g .ensures .1)
+    let g = c .before .before .measure in
+    passes (a .job) (a .points .now) (a .work .now) (a .index .now) (s .pre) (k .last .0) (k .ensures) (f .last .0) (f .last .1 .0) (f .ensures .0) (f .ensures .1) (q .last .0) (q .ensures) (g .last .0) (g .result) (g .ensures)
 
 pub pass-through-spec : {M : Type 1} → statement M
 pass-through-spec =
@@ -62,7 +63,7 @@ pass-through-spec =
     averaged-knots-requires
     fill-table-requires
     interpolation-requires
-    ladder-deviations-requires
+    measure-requires
     same-length
     same-length-2
     returns)

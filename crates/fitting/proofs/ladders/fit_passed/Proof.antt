@@ -1,5 +1,5 @@
 -- The parameters stand in the first places of the work, and what the call makes of them is handed out; or there are none, and nothing is. Assumes nothing.
-use mathlib.Core.Path.{_≡_, _∙_, ap, sym}
+use mathlib.Core.Path.{_≡_, refl, _∙_, ap, sym}
 use Prim.Native.Nat.{_/_}
 use native.Mathlib.Omega.{arith}
 use lib.ListN.{length, take}
@@ -47,6 +47,7 @@ hand-made-requires c κs =
       (
         has-ladder-job n (a .degree) (a .points .now) w (a .index .now) (p .low) (p .high) (count-under (a .call) n (a .degree) (s .pre .0 .1) (p .low)) (p .most) (omega arith) (omega (arith, r .for-work)) (r .for-index),
         s .pre .0 .1,
+        refl,
       ),
       record { for-poles = r .for-poles; for-flat = r .for-flat; for-knots = r .for-knots; for-mults = r .for-mults; for-work = omega (arith, r .for-work); for-index = r .for-index },
     )
@@ -78,7 +79,7 @@ returns-2 c =
     let n = length (a .points .now) / 3 in
     let w = q .last .1 .1 .1 .1 .1 .0 in
     run-same (a .degree) (ladderFit (a .spacing) (a .points .now) (a .degree) (fitBy (a .call)))
-    (passed-some (a .spacing) (a .points .now) (a .degree) (fitBy (a .call)) (take n w) (found-some (q .ensures) (c .before .before .before .before .before .before .before .before .before .before .before .before .before .before .before .before .before .before .before .before .if1 .left)) ∙ sym (ap (fitBy (a .call)) (direction-is n (a .degree) (a .points .now) w)))
+    (passed-some (a .spacing) (a .points .now) (a .degree) (fitBy (a .call)) (take n w) (found-some (q .ensures) (c .before .before .before .before .before .before .before .before .before .before .before .before .before .before .before .before .before .before .before .before .if1 .left)) ∙ sym (ap (fitBy (a .call)) (direction-is n (a .degree) (a .points .now) w (a .index .now))))
     (rw (j .ensures) at (c .before .before .before .before .before .before .before .before .before .before .before .before .hand-made .ensures))
 
 pub fit-passed-spec : {M : Type 1} → statement M

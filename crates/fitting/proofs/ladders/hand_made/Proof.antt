@@ -1,4 +1,6 @@
 -- The fit that stands in the work is the one that is handed out. Assumes nothing.
+use mathlib.Core.Path.{_≡_}
+use Prim.Native.Nat.{_*_}
 use native.Mathlib.Omega.{arith}
 use Rattle.fitting.proofs.RunLaws.{hands-refused, hands-standing}
 use borrow.Author.Needs.{needs}
@@ -19,12 +21,12 @@ enum-known-x c = search needs
 sub-m : tie.Need-sub-m
 sub-m c =
     let x = c .before .before .x .given in
-    omega (arith, c .before .before .before .before .before .before .before .before .make .ensures .few (x .0 .0) (x .1) .least)
+    omega (arith, c .before .before .before .before .before .before .before .before .make .ensures .standing (x .0 .0) (x .1) .few .least)
 
 sub-m-2 : tie.Need-sub-m-2
 sub-m-2 c =
     let x = c .before .before .x .given in
-    omega (arith, c .before .before .before .before .before .before .before .before .make .ensures .few (x .0 .0) (x .1) .least)
+    omega (arith, c .before .before .before .before .before .before .before .before .make .ensures .standing (x .0 .0) (x .1) .few .least)
 
 hand-out-requires : tie.Need-hand-out-requires
 hand-out-requires c κs =
@@ -32,17 +34,20 @@ hand-out-requires c κs =
     let a = s .args in
     let x = c .before .before .before .before .before .before .before .x .given in
     let m = c .before .before .before .before .before .before .before .before .before .before .before .before .before .make .ensures in
-    let k = m .few (x .0 .0) (x .1) in
+    let k = m .standing (x .0 .0) (x .1) .few in
     let h = s .pre .0 .0 in
     let r = s .pre .1 in
+    let one : 3 * (a .job .given .lines * a .job .table .count) ≡ 3 * a .job .table .count = rw (s .pre .0 .2) (omega arith) in
     record {
-      few = omega (arith, k .most, h .few, h .high);
-      poles-in = omega (arith, k .most, h .poles-in, h .deviations-in, h .fresh-in, m .kept .long);
-      flat-in = omega (arith, k .most, h .flat-in, h .values-in, h .band-in, h .poles-in, h .deviations-in, h .fresh-in, m .kept .long);
+      knots-out = record {
+        few = omega (arith, k .most, h .few, h .high);
+        flat-in = omega (arith, k .most, h .flat-in, h .values-in, h .band-in, h .poles-in, h .curve-in, h .deviations-in, h .fresh-in, m .kept .long);
+        for-flat = omega (arith, k .least, k .most, r .for-flat);
+        for-knots = omega (arith, k .least, k .most, r .for-knots);
+        for-mults = omega (arith, k .least, k .most, r .for-mults);
+      };
+      poles-in = omega (arith, k .most, h .poles-in, h .curve-in, h .deviations-in, h .fresh-in, m .kept .long, one);
       for-poles = omega (arith, k .most, r .for-poles);
-      for-flat = omega (arith, k .least, k .most, r .for-flat);
-      for-knots = omega (arith, k .least, k .most, r .for-knots);
-      for-mults = omega (arith, k .least, k .most, r .for-mults);
     }
 
 same-length : tie.Need-same-length
@@ -76,7 +81,7 @@ same-length-8 c = search needs
 returns-2 : tie.Need-returns-2
 returns-2 c =
     let x = c .before .before .before .before .before .before .before .before .before .before .before .before .before .before .before .before .x .given in
-    hands-standing (c .before .before .before .before .before .before .before .before .before .before .before .before .before .before .before .before .before .before .before .before .before .before .make .ensures) (x .0 .0) (x .1) (c .before .before .before .before .before .before .before .before .before .before .before .before .before .before .before .before .before .before .before .before .before .before .before .before .before .before .before .before .before .before .before .before .pre .0 .0) (c .before .before .before .before .before .before .before .before .hand-out .ensures)
+    hands-standing (c .before .before .before .before .before .before .before .before .before .before .before .before .before .before .before .before .before .before .before .before .before .before .make .ensures) (x .0 .0) (x .1) (c .before .before .before .before .before .before .before .before .before .before .before .before .before .before .before .before .before .before .before .before .before .before .before .before .before .before .before .before .before .before .before .before .pre .0 .0) (c .before .before .before .before .before .before .before .before .before .before .before .before .before .before .before .before .before .before .before .before .before .before .before .before .before .before .before .before .before .before .before .before .pre .0 .2) (c .before .before .before .before .before .before .before .before .hand-out .ensures)
 
 pub hand-made-spec : {M : Type 1} → statement M
 hand-made-spec =

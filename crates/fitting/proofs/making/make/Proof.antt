@@ -56,7 +56,7 @@ returns c =
     let s = c .before .before .before .before .before .before .before .before .before .before .before .before in
     let a = s .args in
     let m = c .before .before .before .before .make-through in
-    subst (λ (x : Call). Makes (a .job) (a .points .now) (fitBy x (directionOf (a .job) (a .points .now) (a .work .now))) (a .work .now) (m .last .0) (a .index .now) (m .last .1 .0) (m .result)) (sym (c .before .before .before .before .before .before .before .enum-told .given .1)) (m .ensures)
+    subst (λ (x : Call). Makes (a .job) (a .points .now) (fitBy x (directionOf (a .job) (a .points .now) (a .work .now) (a .index .now))) (a .work .now) (m .last .0) (a .index .now) (m .last .1 .0) (m .result)) (sym (c .before .before .before .before .before .before .before .enum-told .given .1)) (m .ensures)
 
 same-length-3 : tie.Need-same-length-3
 same-length-3 c = search needs
@@ -69,7 +69,7 @@ returns-2 c =
     let s = c .before .before .before .before .before .before .before .before .before .before .before .before .before in
     let a = s .args in
     let m = c .before .before .before .before .make-chosen in
-    subst (λ (x : Call). Makes (a .job) (a .points .now) (fitBy x (directionOf (a .job) (a .points .now) (a .work .now))) (a .work .now) (m .last .0) (a .index .now) (m .last .1 .0) (m .result)) (sym (c .before .before .before .before .before .before .before .before .call .given .1)) (m .ensures)
+    subst (λ (x : Call). Makes (a .job) (a .points .now) (fitBy x (directionOf (a .job) (a .points .now) (a .work .now) (a .index .now))) (a .work .now) (m .last .0) (a .index .now) (m .last .1 .0) (m .result)) (sym (c .before .before .before .before .before .before .before .before .call .given .1)) (m .ensures)
 
 same-length-5 : tie.Need-same-length-5
 same-length-5 c = search needs
@@ -82,7 +82,7 @@ returns-3 c =
     let s = c .before .before .before .before .before .before .before .before .before .before .before .before .before in
     let a = s .args in
     let m = c .before .before .before .before .make-within in
-    subst (λ (x : Call). Makes (a .job) (a .points .now) (fitBy x (directionOf (a .job) (a .points .now) (a .work .now))) (a .work .now) (m .last .0) (a .index .now) (m .last .1 .0) (m .result)) (sym (c .before .before .before .before .before .before .before .before .call2 .given .1)) (m .ensures)
+    subst (λ (x : Call). Makes (a .job) (a .points .now) (fitBy x (directionOf (a .job) (a .points .now) (a .work .now) (a .index .now))) (a .work .now) (m .last .0) (a .index .now) (m .last .1 .0) (m .result)) (sym (c .before .before .before .before .before .before .before .before .call2 .given .1)) (m .ensures)
 
 same-length-7 : tie.Need-same-length-7
 same-length-7 c = search needs
@@ -95,7 +95,7 @@ returns-4 c =
     let s = c .before .before .before .before .before .before .before .before .before .before .before .before .before in
     let a = s .args in
     let m = c .before .before .before .before .make-spread in
-    subst (λ (x : Call). Makes (a .job) (a .points .now) (fitBy x (directionOf (a .job) (a .points .now) (a .work .now))) (a .work .now) (m .last .0) (a .index .now) (m .last .1 .0) (m .result)) (sym (c .before .before .before .before .before .before .before .before .call3 .given .1)) (m .ensures)
+    subst (λ (x : Call). Makes (a .job) (a .points .now) (fitBy x (directionOf (a .job) (a .points .now) (a .work .now) (a .index .now))) (a .work .now) (m .last .0) (a .index .now) (m .last .1 .0) (m .result)) (sym (c .before .before .before .before .before .before .before .before .call3 .given .1)) (m .ensures)
 
 pub make-spec : {M : Type 1} → statement M
 make-spec =

@@ -1,6 +1,7 @@
 -- The spread search leaves its fit in the regions; where it has none, the direction is as it was, and the points are interpolated. Assumes nothing.
 use Rattle.fitting.proofs.AttemptLaws.{has-job-kept}
 use Rattle.fitting.proofs.MakeLaws.{spread-missed, spread-met}
+use Prim.Native.Nat.{_+_}
 use borrow.Author.Needs.{needs}
 use Rattle.fitting.proofs.making.make_spread.Statement.{statement}
 use Rattle.fitting.proofs.making.make_spread.Tie as tie
@@ -18,7 +19,7 @@ make-through-requires c κs =
     let s = c .before .before .before .before .before .before .before .before .before .before .before .before .before .before in
     let a = s .args in
     let f = c .before .before .before .before .before .before .before .before .fit-on-spread-knots in
-    has-job-kept (a .job) (a .points .now) (a .work .now) (f .last .0) (a .index .now) (f .last .1 .0) (s .pre) (f .ensures .reaches .kept .long) (f .ensures .reaches .firsts)
+    has-job-kept (a .job) (a .points .now) (a .work .now) (f .last .0) (a .index .now) (f .last .1 .0) (a .job .fresh + a .job .table .count) (a .job .table .firsts + a .job .table .count) (s .pre) (f .ensures .reaches .kept) (f .ensures .reaches .firsts)
 
 enum-known-l : tie.Need-enum-known-l
 enum-known-l c = search needs

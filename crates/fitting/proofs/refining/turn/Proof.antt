@@ -78,7 +78,8 @@ returns-3 c =
     let s = c .before .before .before .before .before .before .before .before .before .before .before .before .before .before .before .before .before .before .before .before .before .before .before .before .before .before in
     let a = s .args in
     let x = c .before .before .before .before .before .before .before .before .before .before .before .before .before .before .before .before .before .before .before .before .attempt in
-    turn-stuck (a .job) (a .points .now) (a .work .now) (a .index .now) (s .pre .0) (a .l) (s .pre .1) (a .tolerance) (x .last .0) (x .last .1 .0) (c .before .before .before .before .before .before .before .before .before .before .before .before .before .before .m .given .0 .0) (rw (c .before .before .before .before .before .before .before .before .before .before .before .before .before .before .m .given .1) at (x .ensures)) (c .before .before .before .before .before .before .before .before .before .before .before .if1 .left) (c .before .before .before .before .before .before .refine .last .0) _ (same-length-6 c) (c .before .before .before .before .before .before .refine .result) (c .before .before .before .before .before .before .refine .ensures .0) (c .before .before .before .before .before .before .refine .ensures .1 .0) (c .enum-told2 .given .1)
+    let q = c .before .before .before .before .before .before .refine in
+    turn-stuck (a .job) (a .points .now) (a .work .now) (a .index .now) (s .pre .0) (a .l) (s .pre .1) (a .tolerance) (x .last .0) (x .last .1 .0) (c .before .before .before .before .before .before .before .before .before .before .before .before .before .before .m .given .0 .0) (rw (c .before .before .before .before .before .before .before .before .before .before .before .before .before .before .m .given .1) at (x .ensures)) (c .before .before .before .before .before .before .before .before .before .before .before .if1 .left) (c .before .before .before .before .before .before .refine .last .0) (q .last .1 .0) (q .ensures .1 .1) (q .result) (c .before .before .before .before .before .before .refine .ensures .0) (c .before .before .before .before .before .before .refine .ensures .1 .0) (c .enum-told2 .given .1)
 
 same-length-7 : tie.Need-same-length-7
 same-length-7 c = search needs
@@ -91,7 +92,8 @@ returns-4 c =
     let s = c .before .before .before .before .before .before .before .before .before .before .before .before .before .before .before .before .before .before .before .before .before .before .before .before .before .before .before in
     let a = s .args in
     let x = c .before .before .before .before .before .before .before .before .before .before .before .before .before .before .before .before .before .before .before .before .before .attempt in
-    turn-next (a .job) (a .points .now) (a .work .now) (a .index .now) (s .pre .0) (a .l) (s .pre .1) (a .tolerance) (x .last .0) (x .last .1 .0) (c .before .before .before .before .before .before .before .before .before .before .before .before .before .before .before .m .given .0 .0) (rw (c .before .before .before .before .before .before .before .before .before .before .before .before .before .before .before .m .given .1) at (x .ensures)) (c .before .before .before .before .before .before .before .before .before .before .before .before .if1 .left) (c .before .before .before .before .before .before .before .refine .last .0) _ (same-length-8 c) (c .before .before .before .before .before .before .before .refine .result) (c .before .before .before .before .before .before .before .refine .ensures .0) (c .before .before .before .before .before .before .before .refine .ensures .1 .0) (c .before .k .given .0 .0) (c .before .k .given .1)
+    let q = c .before .before .before .before .before .before .before .refine in
+    turn-next (a .job) (a .points .now) (a .work .now) (a .index .now) (s .pre .0) (a .l) (s .pre .1) (a .tolerance) (x .last .0) (x .last .1 .0) (c .before .before .before .before .before .before .before .before .before .before .before .before .before .before .before .m .given .0 .0) (rw (c .before .before .before .before .before .before .before .before .before .before .before .before .before .before .before .m .given .1) at (x .ensures)) (c .before .before .before .before .before .before .before .before .before .before .before .before .if1 .left) (c .before .before .before .before .before .before .before .refine .last .0) (q .last .1 .0) (q .ensures .1 .1) (q .result) (c .before .before .before .before .before .before .before .refine .ensures .0) (c .before .before .before .before .before .before .before .refine .ensures .1 .0) (c .before .k .given .0 .0) (c .before .k .given .1)
 
 pub turn-spec : {M : Type 1} → statement M
 turn-spec =

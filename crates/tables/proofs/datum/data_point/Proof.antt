@@ -46,7 +46,7 @@ part-point-at-start : tie.Need-part-point-at-start
 part-point-at-start c = omega (arith, c .before .before .before .before .pre .columns (above-one _ (c .before .if1 .left) (c .if2 .left)))
 
 part-point-at-end : tie.Need-part-point-at-end
-part-point-at-end c = search needs
+part-point-at-end c = omega (arith, c .before .before .before .before .pre .columns (above-one _ (c .before .if1 .left) (c .if2 .left)))
 
 mul-point-at-3 : tie.Need-mul-point-at-3
 mul-point-at-3 c = omega (arith, c .before .before .before .before .before .pre .columns (above-one _ (c .before .before .if1 .left) (c .before .if2 .left)))
@@ -59,10 +59,7 @@ point-at-requires-3 c κs = omega (arith, c .before .before .before .before .bef
 
 returns-3 : tie.Need-returns-3
 unfolding dataPoint
-returns-3 c =
-    let a = c .before .before .before .before .before .before .args in
-    let whole : take (length (a .work .now) - a .given .start) (drop (a .given .start) (a .work .now)) ≡ drop (a .given .start) (a .work .now) = take-all (length (a .work .now) - a .given .start) (drop (a .given .start) (a .work .now)) (omega (arith, length-drop (a .given .start) (a .work .now))) in
-    rw (ne-eqb _ _ (c .before .before .before .if1 .left), ne-eqb _ _ (c .before .before .if2 .left)) (c .point-at3 .ensures ∙ ap (λ (l : List Float). pointAt l (a .k * a .given .across + a .r)) whole)
+returns-3 c = rw (ne-eqb _ _ (c .before .before .before .if1 .left), ne-eqb _ _ (c .before .before .if2 .left)) (c .point-at3 .ensures)
 
 pub data-point-spec : {M : Type 1} → statement M
 data-point-spec =
