@@ -141,8 +141,8 @@ fn make_fewer(
         (now (work .entry)) (now (work .exit)) (now (index .entry)) (now (index .exit)) r ⌝ }
 {
     save_fit(work, job, l, saved);
-    let last = l - job.table.degree - 1;
-    match crate::counts::fit_on_spread_knots(work, index, points, job, tolerance, last) {
+    let below = l - job.table.degree - 1;
+    match crate::counts::fit_on_spread_knots(work, index, points, job, tolerance, below) {
         Reached::Missed => {
             restore_fit(work, job, l, saved);
             Made::Stands(Standing {

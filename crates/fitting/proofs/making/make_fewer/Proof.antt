@@ -8,11 +8,11 @@ use Rattle.fitting.proofs.making.make_fewer.Tie as tie
 save-fit-requires : tie.Need-save-fit-requires
 save-fit-requires c κs = search needs
 
-sub-last : tie.Need-sub-last
-sub-last c = omega (arith, c .before .before .before .before .before .before .before .before .pre .2 .least)
+sub-below : tie.Need-sub-below
+sub-below c = omega (arith, c .before .before .before .before .before .before .before .before .pre .2 .least)
 
-sub-last-2 : tie.Need-sub-last-2
-sub-last-2 c = omega (arith, c .before .before .before .before .before .before .before .before .pre .2 .least)
+sub-below-2 : tie.Need-sub-below-2
+sub-below-2 c = omega (arith, c .before .before .before .before .before .before .before .before .pre .2 .least)
 
 fit-on-spread-knots-requires : tie.Need-fit-on-spread-knots-requires
 fit-on-spread-knots-requires c κs =
@@ -59,8 +59,8 @@ make-fewer-spec =
     tie.close
     (tie.spec
     save-fit-requires
-    sub-last
-    sub-last-2
+    sub-below
+    sub-below-2
     fit-on-spread-knots-requires
     enum-told
     restore-fit-requires
