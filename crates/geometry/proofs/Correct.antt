@@ -218,13 +218,13 @@ module _ (n w j k : ℕ) (is : n ≡ w * 2 ^ j) (small : w < 2 ^ 53) (lo : 2 ^ 5
   nearer = settled (compare (4 * n) ((2 * q + 1) * 2 ^ k * ((2 * q + 1) * 2 ^ k))) (cmp (4 * n) ((2 * q + 1) * 2 ^ k * ((2 * q + 1) * 2 ^ k)))
 
 -- ---- `sqrtOf x` is the value nearest to the root of x, for every positive finite x
-positive-plain : (x : Float) → T (positive x) → T (plain x)
+pub positive-plain : (x : Float) → T (positive x) → T (plain x)
 positive-plain nan p = absurd p
 positive-plain (inf s) p = absurd p
 positive-plain (fin true m e) p = absurd p
 positive-plain (fin false m e) p = tt
 
-rootUnits-is : (n : ℕ) → rootUnits n ≡ units binary64 false (nearestRoot n (size (wholeRoot n) - 53)) (size (wholeRoot n) - 53)
+pub rootUnits-is : (n : ℕ) → rootUnits n ≡ units binary64 false (nearestRoot n (size (wholeRoot n) - 53)) (size (wholeRoot n) - 53)
 unfolding rootUnits
 rootUnits-is n = refl
 
@@ -260,7 +260,7 @@ correct x h p =
     })
 
 -- ---- and no other value is
-same-units : (r s : Float) → T (fits binary64 r) → T (plain r) → T (fits binary64 s) → T (plain s) → inUnits r ≡ inUnits s → r ≡ s
+pub same-units : (r s : Float) → T (fits binary64 r) → T (plain r) → T (fits binary64 s) → T (plain s) → inUnits r ≡ inUnits s → r ≡ s
 same-units r s hr pr hs ps e =
     sym (ofBits-toBits binary64 r hr)
     ∙ ap (ofBits binary64) (toBits-is r (inUnits r) (plain-value r hr pr) ∙ ap (λ (n : ℕ). (size n - 53) * 2 ^ 52 + n / 2 ^ (size n - 53)) e ∙ sym (toBits-is s (inUnits s) (plain-value s hs ps)))

@@ -99,6 +99,11 @@ pub nested-largest : (rows : List (List Float)) → largest (map largest rows) �
 unfolding largest
 nested-largest rows = nested-from nought rows zero-le-zero
 
+-- at least the 0 that it starts from
+pub largest-from-zero : (ds : List Float) → T (le nought (largest ds))
+unfolding largest
+largest-from-zero ds = from-first nought ds (le-left nought nought zero-le-zero)
+
 pub largest-step : (a : Float) (ds : List Float) (k : ℕ) → k < length ds → largestFrom a (drop k ds) ≡ largestFrom (larger a (getD ds k nan)) (drop (k + 1) ds)
 unfolding largestFrom
 largest-step a ds k h = rw (add-one, drop-cons ds k nan h)

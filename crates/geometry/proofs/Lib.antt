@@ -5,6 +5,7 @@ pub mod Folds
 pub mod PointLaws
 pub mod SortLaws
 pub mod Correct
+pub mod RootOrder
 pub mod Examples
 pub mod Whole
 mod Steps

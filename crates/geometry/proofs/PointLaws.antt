@@ -1,4 +1,4 @@
--- Points in a list of three places a point. Assumes nothing.
+-- Distances of points, and points in a list of three places a point. Assumes nothing.
 use mathlib.Core.Path.{_≡_, refl, sym, _∙_, ap}
 use mathlib.Core.List.{List}
 use Prim.Native.Nat.{ℕ, zero, suc, _+_, _*_, _<_, _≤_}
@@ -7,10 +7,22 @@ use native.Mathlib.Numerals.{add-one}
 use native.Mathlib.Omega.{arith}
 use lib.ListN.{length, getD, set, length-set}
 use lib.Seq.{getD-set-same, getD-set-other}
-use lib.Ieee.{Float, nan}
+use lib.Dec.{T}
+use lib.Ieee.{Float, nan, binary64, fits}
+use lib.Ieee.Fits.{add-fits}
 use Rattle.geometry.specs.declared.Point.{Point}
 use Rattle.geometry.specs.Doubles.{_⊗_, at, sumBelow}
-use Rattle.geometry.specs.Points.{pointAt, putPoint, plusScaled, weighted}
+use Rattle.geometry.specs.Points.{squaredDistance, distance, pointAt, putPoint, plusScaled, weighted}
+use Rattle.geometry.specs.Root.{sqrtOf}
+
+-- the distance is the root of its square, which is a sum and so fits
+pub distance-root : (p q : Point) → distance p q ≡ sqrtOf (squaredDistance p q)
+unfolding distance
+distance-root p q = refl
+
+pub squared-fits : (p q : Point) → T (fits binary64 (squaredDistance p q))
+unfolding squaredDistance
+squared-fits p q = add-fits binary64 _ _
 
 pub length-put-point : (k : ℕ) (q : Point) (l : List Float) → length (putPoint k q l) ≡ length l
 unfolding putPoint

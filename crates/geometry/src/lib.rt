@@ -6,7 +6,7 @@ pub mod root;
 ghost use mathlib.Core.Path.{_≡_};
 ghost use Prim.Native.Nat.{ℕ, _+_, _*_, _≤_};
 ghost use lib.ListN.{length};
-ghost use Rattle.geometry.specs.Points.{distance, plusScaled, lessScaled, scaled, pointAt, putPoint};
+ghost use Rattle.geometry.specs.Points.{distance, squaredDistance, plusScaled, lessScaled, scaled, pointAt, putPoint};
 
 // Document 01's bound of "confused points": the double nearest 10^-7 (`Tolerance::DEFAULT.confusion`).
 pub const CONFUSION: f64 = 1e-7;
@@ -19,14 +19,21 @@ pub struct Point {
 }
 
 impl Point {
-    // The distance to another point.
-    pub fn distance(self, other: Point) -> f64
-        ensures { λ r. ⌜ r ≡ distance self other ⌝ }
+    // The square of the distance to another point.
+    pub fn squared_distance(self, other: Point) -> f64
+        ensures { λ r. ⌜ r ≡ squaredDistance self other ⌝ }
     {
         let dx = other.x - self.x;
         let dy = other.y - self.y;
         let dz = other.z - self.z;
-        root::sqrt(dx * dx + dy * dy + dz * dz)
+        dx * dx + dy * dy + dz * dz
+    }
+
+    // The distance to another point.
+    pub fn distance(self, other: Point) -> f64
+        ensures { λ r. ⌜ r ≡ distance self other ⌝ }
+    {
+        root::sqrt(self.squared_distance(other))
     }
 
     // self + a q.

@@ -10,11 +10,12 @@ use lib.Seq.{getD-set-same, getD-set-other, take-set-le, drop-set-lt, ext-getD}
 use lib.Ieee.{Float, nan}
 use Rattle.places.specs.Places.{laid, listOf, joined}
 use Rattle.places.specs.Regions.{part, splice}
-use Rattle.places.proofs.PlaceLaws.{laid-at, laid-same, laid-laid, laid-region, listOf-at, listOf-same, length-listOf, length-joined, joined-more, joined-same, joined-at}
+use Rattle.places.proofs.PlaceLaws.{length-laid, laid-at, laid-same, laid-laid, laid-region, listOf-at, listOf-same, length-listOf, length-joined, joined-more, joined-same, joined-at}
 use Rattle.places.proofs.RegionLaws.{getD-part, getD-after, length-part, part-splice}
 use Rattle.geometry.specs.declared.Point.{Point}
 use Rattle.geometry.specs.Doubles.{at, nought, larger, largest}
-use Rattle.geometry.specs.Points.{distance, pointAt, coordinates, pointsOf}
+use Rattle.geometry.specs.Points.{squaredDistance, distance, pointAt, coordinates, pointsOf}
+use Rattle.geometry.specs.Root.{sqrtOf}
 use Rattle.geometry.proofs.PointLaws.{weighted-same}
 use Rattle.geometry.proofs.Folds.{largest-none, largest-more}
 use Rattle.tables.specs.declared.Table.{Table}
@@ -23,9 +24,9 @@ use Rattle.tables.specs.BasisTable.{BasisTable, first, value, tablePoint
 use Rattle.tables.specs.Deviations.{rowDistances, curvePoles, gridDistances}
 use Rattle.tables.specs.Directions.{transposed}
 use Rattle.tables.specs.Layout.{tableIn, Kept, HasFit}
-use Rattle.tables.specs.Measures.{measured, withAll, fromLine, curveOf, HasGrid, GridMeasured, gridDistancesIn}
+use Rattle.tables.specs.Measures.{measured, withAll, fromLine, squareFromLine, curveOf, HasGrid, GridMeasured, gridDistancesIn}
 use Rattle.tables.proofs.KeptLaws.{kept-laid, kept-splice, kept-wider, kept-then, kept-table}
-use Rattle.tables.proofs.MeasureLaws.{measured-append, measured-within}
+use Rattle.tables.proofs.MeasureLaws.{measured-append, measured-within, rooted-largest}
 use Rattle.tables.proofs.ReadingLaws.{count-in, degree-in, read-kept}
 use Rattle.tables.proofs.SpliceLaws.{length-points, points-same}
 
@@ -56,14 +57,25 @@ module _ (t : Table) (index : List ℕ) (points : List Float) (rows m poles out 
   abbrev pub rowDistance : List Float → ℕ → ℕ → Float
   rowDistance w = fromLine (tableIn t w index) m (part poles (poles + 3 * (rows * m)) w) points (t .count)
 
-  -- each column's deviation over the first i rows
-  abbrev pub columnLargest : List Float → ℕ → ℕ → Float
-  columnLargest w i j = largest (listOf i (λ k. rowDistance w k j))
+  abbrev pub rowSquare : List Float → ℕ → ℕ → Float
+  rowSquare w = squareFromLine (tableIn t w index) m (part poles (poles + 3 * (rows * m)) w) points (t .count)
 
-  row-kept : (w w′ : List Float) → HasFit t rows m poles out (t .count) w index → Kept out (out + t .count) w w′ → (i j : ℕ) → rowDistance w′ i j ≡ rowDistance w i j
-  row-kept w w′ x k i j =
-      ap (λ (p : Point). distance p (pointAt points (i * t .count + j)))
-      (read-kept out (out + t .count) w w′ k t index poles (poles + 3 * (rows * m)) (i * m) j (x .values-before) (omega arith) (x .poles-before))
+  -- the largest square of each column over the first i rows
+  abbrev pub columnLargest : List Float → ℕ → ℕ → Float
+  columnLargest w i j = largest (listOf i (λ k. rowSquare w k j))
+
+  module _ (w w′ : List Float) (x : HasFit t rows m poles out (t .count) w index) (k : Kept out (out + t .count) w w′) (i j : ℕ) where
+    abbrev rowPoint : List Float → Point
+    rowPoint v = tablePoint (tableIn t v index) (part poles (poles + 3 * (rows * m)) v) (i * m) j
+
+    point-kept : rowPoint w′ ≡ rowPoint w
+    point-kept = read-kept out (out + t .count) w w′ k t index poles (poles + 3 * (rows * m)) (i * m) j (x .values-before) (omega arith) (x .poles-before)
+
+    row-kept : rowDistance w′ i j ≡ rowDistance w i j
+    row-kept = ap (λ (p : Point). distance p (pointAt points (i * t .count + j))) point-kept
+
+    square-kept : rowSquare w′ i j ≡ rowSquare w i j
+    square-kept = ap (λ (p : Point). squaredDistance p (pointAt points (i * t .count + j))) point-kept
 
   pub row-measured : (w w′ : List Float) (i : ℕ) (row : Measured) → HasFit t rows m poles out (t .count) w index → w′ ≡ laid out (t .count) (columnLargest w i) w
       → row ≡ measured (listOf (t .count) (rowDistance w′ i)) → row ≡ measured (listOf (t .count) (rowDistance w i))
@@ -71,21 +83,21 @@ module _ (t : Table) (index : List ℕ) (points : List Float) (rows m poles out 
       g ∙ ap measured (listOf-same (t .count) (rowDistance w′ i) (rowDistance w i) (λ j l. row-kept w w′ x (rw e (kept-laid out (t .count) (columnLargest w i) w (x .room))) i j))
 
   pub rows-turn : (w w₁ w₂ : List Float) (i : ℕ) → HasFit t rows m poles out (t .count) w index → w₁ ≡ laid out (t .count) (columnLargest w i) w
-      → w₂ ≡ laid out (t .count) (λ j. larger (at w₁ (out + j)) (rowDistance w₁ i j)) w₁
+      → w₂ ≡ laid out (t .count) (λ j. larger (at w₁ (out + j)) (rowSquare w₁ i j)) w₁
       → w₂ ≡ laid out (t .count) (columnLargest w (i + 1)) w
   rows-turn w w₁ w₂ i x e₁ e₂ =
       let kept : Kept out (out + t .count) w w₁ = rw e₁ (kept-laid out (t .count) (columnLargest w i) w (x .room)) in
       let old : (j : ℕ) → j < t .count → at w₁ (out + j) ≡ columnLargest w i j =
       λ j l. ap (λ (v : List Float). at v (out + j)) e₁ ∙ laid-at out (t .count) (columnLargest w i) w j nan l (x .room) in
       e₂
-      ∙ laid-same out (t .count) _ (columnLargest w (i + 1)) w₁ (λ j l. rw (old j l, row-kept w w₁ x kept i j) (sym (largest-more i (λ k. rowDistance w k j))))
+      ∙ laid-same out (t .count) _ (columnLargest w (i + 1)) w₁ (λ j l. rw (old j l, square-kept w w₁ x kept i j) (sym (largest-more i (λ k. rowSquare w k j))))
       ∙ ap (λ (v : List Float). laid out (t .count) (columnLargest w (i + 1)) v) e₁
       ∙ laid-laid out (t .count) (columnLargest w (i + 1)) (columnLargest w i) w
 
   pub rows-start : (w₀ w : List Float) → w ≡ laid out (t .count) (λ (k : ℕ). nought) w₀ → w ≡ laid out (t .count) (columnLargest w 0) w
   rows-start w₀ w e =
       e ∙ sym (
-      laid-same out (t .count) (columnLargest w 0) (λ (k : ℕ). nought) w (λ j l. largest-none (λ k. rowDistance w k j))
+      laid-same out (t .count) (columnLargest w 0) (λ (k : ℕ). nought) w (λ j l. largest-none (λ k. rowSquare w k j))
       ∙ ap (λ (v : List Float). laid out (t .count) (λ (k : ℕ). nought) v) e
       ∙ laid-laid out (t .count) (λ (k : ℕ). nought) (λ (k : ℕ). nought) w₀)
 
@@ -94,11 +106,27 @@ module _ (t : Table) (index : List ℕ) (points : List Float) (rows m poles out 
   unfolding rowDistances
   rows-in w h = rw (count-in t w index h)
 
-  pub rows-done : (w₀ w w′ : List Float) (total : Measured) → HasFit t rows m poles out (t .count) w₀ index → w ≡ laid out (t .count) (λ (k : ℕ). nought) w₀
-      → w′ ≡ laid out (t .count) (columnLargest w rows) w → total ≡ measured (Rows (rowDistance w) (t .count) rows)
+  -- the roots of the columns' largest squares are the columns' deviations
+  columns-rooted : (w₀ w w₁ w₂ : List Float) → HasFit t rows m poles out (t .count) w₀ index → w ≡ laid out (t .count) (λ (k : ℕ). nought) w₀
+      → w₁ ≡ laid out (t .count) (columnLargest w rows) w → w₂ ≡ laid out (t .count) (λ j. sqrtOf (at w₁ (out + j))) w₁
+      → w₂ ≡ laid out (t .count) (λ j. largest (listOf rows (λ i. rowDistance w i j))) w
+  columns-rooted w₀ w w₁ w₂ x e e₁ e₂ =
+      let n : ℕ = t .count in
+      let long : length w ≡ length w₀ = ap length e ∙ length-laid out n (λ (k : ℕ). nought) w₀ in
+      let old : (j : ℕ) → j < n → at w₁ (out + j) ≡ columnLargest w rows j =
+      λ j l. ap (λ (v : List Float). at v (out + j)) e₁ ∙ laid-at out n (columnLargest w rows) w j nan l (omega (arith, x .room)) in
+      e₂
+      ∙ laid-same out n _ (λ j. largest (listOf rows (λ i. rowDistance w i j))) w₁
+      (λ j l. ap sqrtOf (old j l)
+      ∙ rooted-largest (λ i. tablePoint (tableIn t w index) (part poles (poles + 3 * (rows * m)) w) (i * m) j) (λ i. pointAt points (i * n + j)) rows)
+      ∙ ap (λ (v : List Float). laid out n (λ j. largest (listOf rows (λ i. rowDistance w i j))) v) e₁
+      ∙ laid-laid out n (λ j. largest (listOf rows (λ i. rowDistance w i j))) (columnLargest w rows) w
+
+  pub rows-done : (w₀ w w₁ w′ : List Float) (total : Measured) → HasFit t rows m poles out (t .count) w₀ index → w ≡ laid out (t .count) (λ (k : ℕ). nought) w₀
+      → w₁ ≡ laid out (t .count) (columnLargest w rows) w → w′ ≡ laid out (t .count) (λ j. sqrtOf (at w₁ (out + j))) w₁ → total ≡ measured (Rows (rowDistance w) (t .count) rows)
       → (total ≡ measured (rowDistances rows (tableIn t w₀ index) m (part poles (poles + 3 * (rows * m)) w₀) points))
       × (w′ ≡ splice out (out + t .count) (listOf (t .count) (λ j. largest (listOf rows (λ i. at (rowDistances rows (tableIn t w₀ index) m (part poles (poles + 3 * (rows * m)) w₀) points) (i * t .count + j))))) w₀)
-  rows-done w₀ w w′ total x e e′ g =
+  rows-done w₀ w w₁ w′ total x e e₁ e₂ g =
       let n : ℕ = t .count in
       let kept : Kept out (out + n) w₀ w = rw e (kept-laid out n (λ (k : ℕ). nought) w₀ (x .room)) in
       let same : (i j : ℕ) → rowDistance w i j ≡ rowDistance w₀ i j = λ i j. row-kept w₀ w x kept i j in
@@ -106,8 +134,8 @@ module _ (t : Table) (index : List ℕ) (points : List Float) (rows m poles out 
       joined-same rows (λ i. listOf n (rowDistance w i)) (λ i. listOf n (rowDistance w₀ i)) (λ i h. listOf-same n (rowDistance w i) (rowDistance w₀ i) (λ j l. same i j))
       ∙ sym (rows-in w₀ (x .table .firsts-in)) in (
         g ∙ ap measured found,
-        e′
-            ∙ laid-same out n (columnLargest w rows) _ w
+        columns-rooted w₀ w w₁ w′ x e e₁ e₂
+            ∙ laid-same out n (λ j. largest (listOf rows (λ i. rowDistance w i j))) _ w
             (λ j l. ap largest (listOf-same rows (λ i. rowDistance w i j) (λ i. at (rowDistances rows (tableIn t w₀ index) m (part poles (poles + 3 * (rows * m)) w₀) points) (i * n + j))
             (λ i h. sym (rows-at (rowDistance w) rows n i j h l) ∙ ap (λ (ds : List Float). at ds (i * n + j)) found)))
             ∙ ap (λ (v : List Float). laid out n (λ j. largest (listOf rows (λ i. at (rowDistances rows (tableIn t w₀ index) m (part poles (poles + 3 * (rows * m)) w₀) points) (i * n + j)))) v) e

@@ -10,12 +10,17 @@ use lib.ListN.{length, getD, drop, drop-of-length-le}
 use lib.Seq.{drop-cons}
 use lib.Ieee.{Float, nan, le, isNan}
 use Rattle.places.specs.Places.{listOf}
-use Rattle.places.proofs.PlaceLaws.{listOf-more, length-listOf}
+use Rattle.places.proofs.PlaceLaws.{listOf-more, listOf-same, length-listOf}
+use Rattle.geometry.specs.declared.Point.{Point}
 use Rattle.geometry.specs.Doubles.{larger, largestFrom, largest}
+use Rattle.geometry.specs.Points.{squaredDistance, distance}
+use Rattle.geometry.specs.Root.{sqrtOf}
 use Rattle.geometry.proofs.Folds.{nested-largest, largest-more}
+use Rattle.geometry.proofs.PointLaws.{distance-root, squared-fits}
+use Rattle.geometry.proofs.RootOrder.{largest-root}
 use Rattle.tables.specs.declared.Measured.{Measured}
 use Rattle.tables.specs.Deviations.{allWithin, unreadable}
-use Rattle.tables.specs.Measures.{measured, withOne, withAll}
+use Rattle.tables.specs.Measures.{measured, withOne, withAll, squaresMeasured, withSquare, rooted}
 
 -- ---- the test of each
 pub all-step : (t : Float) (ds : List Float) (k : ℕ) → k < length ds → le (getD ds k nan) t ≡ true → allWithin t (drop k ds) ≡ allWithin t (drop (k + 1) ds)
@@ -79,3 +84,33 @@ measured-next k f m r d e g h = h ∙ rw (e, g, measured-more)
 pub measured-within : (ds : List Float) (m : Measured) → m ≡ measured ds → m .unreadable ≤ length ds
 unfolding measured
 measured-within ds m e = rw e (unreadable-few ds)
+
+-- ---- by the squares
+squares-more : (k : ℕ) (g : ℕ → Float) → squaresMeasured (k + 1) g ≡ withSquare (squaresMeasured k g) (g k)
+unfolding squaresMeasured withSquare unreadable
+squares-more k g = rw (largest-more k g, listOf-more k (λ j. sqrtOf (g j)), unreadable-append (listOf k (λ j. sqrtOf (g j))) (sqrtOf (g k) ∷ []))
+
+pub squares-next : (k : ℕ) (g : ℕ → Float) (m r : Measured) (s : Float) → m ≡ squaresMeasured k g → s ≡ g k → r ≡ withSquare m s → r ≡ squaresMeasured (k + 1) g
+squares-next k g m r s e h i = i ∙ rw (e, h, squares-more)
+
+pub squares-few : (k : ℕ) (g : ℕ → Float) (m : Measured) → m ≡ squaresMeasured k g → m .unreadable ≤ k
+unfolding squaresMeasured
+squares-few k g m e = rw e (omega (arith, unreadable-few (listOf k (λ j. sqrtOf (g j))), length-listOf k (λ j. sqrtOf (g j))))
+
+-- the distances' largest is the root of the largest square
+module _ (p q : ℕ → Point) where
+  abbrev pub squareTo : ℕ → Float
+  squareTo k = squaredDistance (p k) (q k)
+
+  abbrev pub distanceTo : ℕ → Float
+  distanceTo k = distance (p k) (q k)
+
+  pub rooted-same : (n : ℕ) → listOf n distanceTo ≡ listOf n (λ k. sqrtOf (squareTo k))
+  rooted-same n = listOf-same n distanceTo (λ k. sqrtOf (squareTo k)) (λ k h. distance-root (p k) (q k))
+
+  pub rooted-largest : (n : ℕ) → sqrtOf (largest (listOf n squareTo)) ≡ largest (listOf n distanceTo)
+  rooted-largest n = sym (ap largest (rooted-same n) ∙ largest-root squareTo n (λ k h. squared-fits (p k) (q k)))
+
+  pub rooted-measured : (n : ℕ) (m r : Measured) → m ≡ squaresMeasured n squareTo → r ≡ rooted m → r ≡ measured (listOf n distanceTo)
+  unfolding squaresMeasured rooted measured
+  rooted-measured n m r e h = h ∙ rw e (rw (rooted-largest n, rooted-same n) refl)

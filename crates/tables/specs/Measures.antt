@@ -8,7 +8,8 @@ use lib.Ieee.{Float, isNan}
 use Rattle.places.specs.Places.{listOf}
 use Rattle.places.specs.Regions.{part}
 use Rattle.geometry.specs.Doubles.{at, larger, largest}
-use Rattle.geometry.specs.Points.{distance, pointAt, pointsOf}
+use Rattle.geometry.specs.Points.{squaredDistance, distance, pointAt, pointsOf}
+use Rattle.geometry.specs.Root.{sqrtOf}
 use Rattle.tables.specs.declared.Measured.{Measured}
 use Rattle.tables.specs.declared.Table.{Table}
 use Rattle.tables.specs.BasisTable.{BasisTable, tablePoint}
@@ -27,9 +28,22 @@ withOne m d = record { largest = larger (m .largest) d; unreadable = m .unreadab
 unfoldable pub withAll : Measured → Measured → Measured
 withAll m n = record { largest = larger (m .largest) (n .largest); unreadable = m .unreadable + n .unreadable }
 
--- point j of row i of s, `cols` points a row, and its distance from the row's own m poles
+-- The squares of n distances: the largest, and how many have no root. With one square more, and the measures of the distances themselves, by one root.
+unfoldable pub squaresMeasured : ℕ → (ℕ → Float) → Measured
+squaresMeasured n g = record { largest = largest (listOf n g); unreadable = unreadable (listOf n (λ k. sqrtOf (g k))) }
+
+unfoldable pub withSquare : Measured → Float → Measured
+withSquare m s = record { largest = larger (m .largest) s; unreadable = m .unreadable + cond (isNan (sqrtOf s)) 1 0 }
+
+unfoldable pub rooted : Measured → Measured
+rooted m = record { largest = sqrtOf (m .largest); unreadable = m .unreadable }
+
+-- point j of row i of s, `cols` points a row, its distance from the row's own m poles, and the square
 abbrev pub fromLine : BasisTable → ℕ → List Float → List Float → ℕ → ℕ → ℕ → Float
 fromLine t m poles s cols i j = distance (tablePoint t poles (i * m) j) (pointAt s (i * cols + j))
+
+abbrev pub squareFromLine : BasisTable → ℕ → List Float → List Float → ℕ → ℕ → ℕ → Float
+squareFromLine t m poles s cols i j = squaredDistance (tablePoint t poles (i * m) j) (pointAt s (i * cols + j))
 
 -- the poles of the v curve at u parameter i, of columns' poles that stand line after line, m to a column
 abbrev pub curveOf : BasisTable → ℕ → ℕ → List Float → ℕ → List Float

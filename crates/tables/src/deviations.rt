@@ -6,10 +6,11 @@ ghost use Rattle.places.specs.Places.{listOf, laid};
 ghost use Rattle.places.specs.Regions.{part, splice};
 ghost use Rattle.geometry.specs.Doubles.{at, larger, largest};
 ghost use Rattle.geometry.specs.Points.{distance, pointAt};
+ghost use Rattle.geometry.specs.Root.{sqrtOf};
 ghost use Rattle.tables.specs.BasisTable.{tablePoint};
 ghost use Rattle.tables.specs.Deviations.{allWithin, ladderDistances, rowDistances};
 ghost use Rattle.tables.specs.Layout.{tableIn, Readable, HasTable, HasFit};
-ghost use Rattle.tables.specs.Measures.{measured, withOne, withAll, fromLine, curveOf, HasGrid, GridMeasured, gridDistancesIn};
+ghost use Rattle.tables.specs.Measures.{measured, withOne, withAll, withSquare, rooted, fromLine, squareFromLine, curveOf, HasGrid, GridMeasured, gridDistancesIn};
 use crate::Measured;
 use crate::Table;
 use geometry::Point;
@@ -55,6 +56,44 @@ fn with_all(m: Measured, n: Measured) -> Measured
     Measured {
         largest: geometry::doubles::max(m.largest, n.largest),
         unreadable: m.unreadable + n.unreadable,
+    }
+}
+
+// One square of a distance more: one that has no root is passed over by the largest, and counted.
+fn with_square(total: Measured, s: f64) -> Measured
+    requires { ⌜ total .unreadable + 1 < 2 ^ 64 ⌝ }
+    ensures { λ r. ⌜ r ≡ withSquare total s ⌝ }
+{
+    let most = geometry::doubles::max(total.largest, s);
+    if 0.0 <= s {
+        return Measured {
+            largest: most,
+            unreadable: total.unreadable,
+        };
+    }
+    Measured {
+        largest: most,
+        unreadable: total.unreadable + 1,
+    }
+}
+
+// The measures of distances from those of their squares.
+fn rooted(squares: Measured) -> Measured
+    ensures { λ r. ⌜ r ≡ rooted squares ⌝ }
+{
+    Measured {
+        largest: geometry::root::sqrt(squares.largest),
+        unreadable: squares.unreadable,
+    }
+}
+
+// The root of each of the n values from place `from` on.
+fn roots(work: &mut [f64], from: usize, n: usize)
+    requires { ⌜ from + n ≤ length (now work) ⌝ }
+    ensures { λ _. ⌜ now (work .exit) ≡ laid from n (λ k. sqrtOf (at (now (work .entry)) (from + k))) (now (work .entry)) ⌝ }
+{
+    for k in 0..n {
+        work[from + k] = geometry::root::sqrt(work[from + k]);
     }
 }
 
@@ -107,7 +146,7 @@ pub fn ladder_deviations(
     total
 }
 
-// Row i of a grid against its own m poles: where a point's distance is larger than its column's deviation at `out`, it is put there.
+// Row i of a grid against its own m poles: where the square of a point's distance is larger than its column's at `out`, it is put there.
 fn row_distances(
     work: &mut [f64],
     index: &[usize],
@@ -121,7 +160,7 @@ fn row_distances(
 ) -> Measured
     requires { ⌜ HasFit table rows m poles out (table .count) (now work) (now index) × (i < rows) × (3 * (rows * table .count) ≤ length (now points)) ⌝ }
     ensures { λ r. ⌜ r ≡ measured (listOf (table .count) (fromLine (tableIn table (now (work .entry)) (now (index .entry))) m (part poles (poles + 3 * (rows * m)) (now (work .entry))) (now (points .entry)) (table .count) i)) ⌝ }
-    ensures { λ _. ⌜ now (work .exit) ≡ laid out (table .count) (λ j. larger (at (now (work .entry)) (out + j)) (fromLine (tableIn table (now (work .entry)) (now (index .entry))) m (part poles (poles + 3 * (rows * m)) (now (work .entry))) (now (points .entry)) (table .count) i j)) (now (work .entry)) ⌝ }
+    ensures { λ _. ⌜ now (work .exit) ≡ laid out (table .count) (λ j. larger (at (now (work .entry)) (out + j)) (squareFromLine (tableIn table (now (work .entry)) (now (index .entry))) m (part poles (poles + 3 * (rows * m)) (now (work .entry))) (now (points .entry)) (table .count) i j)) (now (work .entry)) ⌝ }
 {
     let count = table.count;
     let end = poles + 3 * (rows * m);
@@ -133,11 +172,11 @@ fn row_distances(
     };
     for j in 0..count {
         let q = table_point(work, index, table, poles, end, start, j);
-        let d = q.distance(geometry::point_at(points, first + j));
-        total = with_one(total, d);
-        work[out + j] = geometry::doubles::max(work[out + j], d);
+        let s = q.squared_distance(geometry::point_at(points, first + j));
+        total = with_square(total, s);
+        work[out + j] = geometry::doubles::max(work[out + j], s);
     }
-    total
+    rooted(total)
 }
 
 // A grid's rows, each against its own m poles: each column's deviation, the largest over the rows, from place `out` on.
@@ -165,6 +204,7 @@ pub fn row_deviations(
         let row = row_distances(work, index, points, table, rows, m, i, poles, out);
         total = with_all(total, row);
     }
+    roots(work, out, count);
     total
 }
 
@@ -190,7 +230,7 @@ fn curve_poles(
     }
 }
 
-// Row i of a grid against the v curve whose poles stand from place `curve` on.
+// Row i of a grid against the v curve whose poles stand from place `curve` on: a root is taken of the largest square alone.
 fn curve_distances(
     work: &[f64],
     index: &[usize],
@@ -212,10 +252,10 @@ fn curve_distances(
     };
     for j in 0..count {
         let q = table_point(work, index, v, curve, end, 0, j);
-        let d = q.distance(geometry::point_at(points, first + j));
-        total = with_one(total, d);
+        let s = q.squared_distance(geometry::point_at(points, first + j));
+        total = with_square(total, s);
     }
-    total
+    rooted(total)
 }
 
 // A grid's points, each against the whole surface at its pair of parameters: each row's deviation, the largest over the row, from place `out` on.

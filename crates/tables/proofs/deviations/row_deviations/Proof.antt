@@ -1,4 +1,4 @@
--- The invariant: each column's deviation is the largest over the first i rows, all else is as it was, and the measures are theirs. Assumes nothing.
+-- The invariant: each column's value is the largest square over the first i rows, all else is as it was, and the measures are those of the distances. Assumes nothing.
 use mathlib.Core.Path.{_≡_, refl}
 use Prim.Native.Nat.{_-_, _≤_}
 use native.Mathlib.Omega.{arith}
@@ -57,15 +57,18 @@ loop-again c =
     let row = row-measured (a .table) (a .index .now) (a .points .now) (a .rows) (a .m) (a .poles) (a .out) w (l .loop .work) (l .loop .i) (c .before .before .before .row-distances .result) x (l .loop .inv .2) (c .before .before .before .row-distances .ensures .0) in
     (omega arith, omega arith, rows-turn (a .table) (a .index .now) (a .points .now) (a .rows) (a .m) (a .poles) (a .out) w (l .loop .work) (c .before .before .before .row-distances .last .0) (l .loop .i) x (l .loop .inv .2) (c .before .before .before .row-distances .ensures .1), rows-measured (rowDistance (a .table) (a .index .now) (a .points .now) (a .rows) (a .m) (a .poles) (a .out) w) (a .table .count) (l .loop .i) (l .loop .total) (c .before .before .before .row-distances .result) (c .with-all .result) (l .loop .inv .3) row (c .with-all .ensures))
 
+roots-requires : tie.Need-roots-requires Inv-loop μ-loop
+roots-requires c κs = let l = c .before .before in let x = c .before .before .before .before .before .before .before .before .before .before .pre .0 in omega (arith, x .room)
+
 same-length : tie.Need-same-length Inv-loop μ-loop
 same-length c = search needs
 
 returns : tie.Need-returns Inv-loop μ-loop
 returns c =
-    let l = c .before in
-    let a = c .before .before .before .before .before .before .before .before .before .args in
+    let l = c .before .before .before .before .before in
+    let a = c .before .before .before .before .before .before .before .before .before .before .before .before .before .args in
     let z : l .loop .i ≡ a .rows = omega arith in
-    rows-done (a .table) (a .index .now) (a .points .now) (a .rows) (a .m) (a .poles) (a .out) (a .work .now) (c .before .before .before .before .fill .last .0) (l .loop .work) (l .loop .total) (c .before .before .before .before .before .before .before .before .before .pre .0) (c .before .before .before .before .fill .ensures) (rw z at (l .loop .inv .2)) (rw z at (l .loop .inv .3))
+    rows-done (a .table) (a .index .now) (a .points .now) (a .rows) (a .m) (a .poles) (a .out) (a .work .now) (c .before .before .before .before .before .before .before .before .fill .last .0) (l .loop .work) (c .before .before .roots .last .0) (l .loop .total) (c .before .before .before .before .before .before .before .before .before .before .before .before .before .pre .0) (c .before .before .before .before .before .before .before .before .fill .ensures) (rw z at (l .loop .inv .2)) (c .before .before .roots .ensures) (rw z at (l .loop .inv .3))
 
 pub row-deviations-spec : {M : Type 1} → statement M
 row-deviations-spec =
@@ -80,5 +83,6 @@ row-deviations-spec =
     add-i
     loop-less
     loop-again
+    roots-requires
     same-length
     returns)

@@ -1,4 +1,4 @@
--- The invariant: the first j deviations are the larger of what stood there and the distance, all else is as it was, and the measures are the row's. Assumes nothing.
+-- The invariant: the first j values are the larger of what stood there and the square of the distance, all else is as it was, and the measures are those of the row's squares. Assumes nothing.
 use mathlib.Core.Path.{_≡_, refl, sym, _∙_, ap}
 use mathlib.Core.List.{List}
 use Prim.Native.Nat.{ℕ, _+_, _-_, _*_, _≤_}
@@ -10,26 +10,27 @@ use Rattle.places.specs.Places.{laid, listOf}
 use Rattle.places.specs.Regions.{part}
 use Rattle.places.proofs.PlaceLaws.{laid-none, laid-next, laid-above, length-laid, row-in}
 use Rattle.geometry.specs.Doubles.{at, larger, largest, largestFrom}
-use Rattle.geometry.specs.Points.{distance, pointAt}
+use Rattle.geometry.specs.Points.{squaredDistance, pointAt}
 use Rattle.tables.specs.declared.Table.{Table}
+use Rattle.tables.specs.BasisTable.{tablePoint}
 use Rattle.tables.specs.Deviations.{unreadable}
 use Rattle.tables.specs.Layout.{tableIn}
-use Rattle.tables.specs.Measures.{measured, fromLine}
+use Rattle.tables.specs.Measures.{squaresMeasured, squareFromLine}
 use Rattle.tables.proofs.KeptLaws.{kept-laid}
-use Rattle.tables.proofs.MeasureLaws.{measured-next, measured-few}
+use Rattle.tables.proofs.MeasureLaws.{squares-next, squares-few, rooted-measured}
 use Rattle.tables.proofs.ReadingLaws.{read-kept, readable}
 use Rattle.tables.proofs.deviations.row_distances.Statement.{statement}
 use Rattle.tables.proofs.deviations.row_distances.Tie as tie
 
--- point j's distance, and the larger of it and what stood at place `out + j`
+-- the square of point j's distance, and the larger of it and what stood at place `out + j`
 abbrev one : List Float → List ℕ → List Float → Table → ℕ → ℕ → ℕ → ℕ → ℕ → Float
-one w index points t rows m i poles j = fromLine (tableIn t w index) m (part poles (poles + 3 * (rows * m)) w) points (t .count) i j
+one w index points t rows m i poles j = squareFromLine (tableIn t w index) m (part poles (poles + 3 * (rows * m)) w) points (t .count) i j
 
 abbrev more : List Float → List ℕ → List Float → Table → ℕ → ℕ → ℕ → ℕ → ℕ → ℕ → Float
 more w index points t rows m i poles out j = larger (at w (out + j)) (one w index points t rows m i poles j)
 
 abbrev Inv-loop : tie.InvT-loop
-Inv-loop work₀ index points table rows m i poles out count end start first total₀ j₀ work total j = (j ≤ table .count) × (length work ≡ length work₀) × (work ≡ laid out j (more work₀ index points table rows m i poles out) work₀) × (total ≡ measured (listOf j (one work₀ index points table rows m i poles)))
+Inv-loop work₀ index points table rows m i poles out count end start first total₀ j₀ work total j = (j ≤ table .count) × (length work ≡ length work₀) × (work ≡ laid out j (more work₀ index points table rows m i poles out) work₀) × (total ≡ squaresMeasured j (one work₀ index points table rows m i poles))
 
 abbrev μ-loop : tie.MeasureT-loop
 μ-loop work₀ index points table rows m i poles out count end start first total₀ j₀ work total j = table .count - j
@@ -50,7 +51,7 @@ mul-first : tie.Need-mul-first Inv-loop μ-loop
 mul-first c = let a = c .before .before .before .args in omega (arith, row-in (a .i) (a .rows) (a .table .count) (omega arith))
 
 loop-holds : tie.Need-loop-holds Inv-loop μ-loop
-unfolding measured listOf largest largestFrom unreadable
+unfolding squaresMeasured listOf largest largestFrom unreadable
 loop-holds c =
     let a = c .before .before .before .args in
     (omega arith, refl, sym (laid-none (a .out) (more (a .work .now) (a .index .now) (a .points .now) (a .table) (a .rows) (a .m) (a .i) (a .poles) (a .out)) (a .work .now)), refl)
@@ -67,13 +68,13 @@ add-point-at c = let a = c .before .before .before .before .before .before .befo
 point-at-requires : tie.Need-point-at-requires Inv-loop μ-loop
 point-at-requires c κs = let a = c .before .before .before .before .before .before .before .args in omega (arith, row-in (a .i) (a .rows) (a .table .count) (omega arith))
 
-distance-requires : tie.Need-distance-requires Inv-loop μ-loop
-distance-requires c κs = search needs
+squared-distance-requires : tie.Need-squared-distance-requires Inv-loop μ-loop
+squared-distance-requires c κs = search needs
 
-with-one-requires : tie.Need-with-one-requires Inv-loop μ-loop
-with-one-requires c κs =
+with-square-requires : tie.Need-with-square-requires Inv-loop μ-loop
+with-square-requires c κs =
     let l = c .before .before .before .before .before in
-    omega (arith, measured-few (l .loop .j) _ (l .loop .total) (l .loop .inv .3))
+    omega (arith, squares-few (l .loop .j) _ (l .loop .total) (l .loop .inv .3))
 
 add-max : tie.Need-add-max Inv-loop μ-loop
 add-max c = search needs
@@ -109,24 +110,28 @@ loop-again c =
     let D = one (a .work .now) (a .index .now) (a .points .now) (a .table) (a .rows) (a .m) (a .i) (a .poles) in
     let G = more (a .work .now) (a .index .now) (a .points .now) (a .table) (a .rows) (a .m) (a .i) (a .poles) (a .out) in
     let j = l .loop .j in
-    let e : c .before .before .before .distance .result ≡ D j =
-    c .before .before .before .distance .ensures
+    let e : c .before .before .before .squared-distance .result ≡ D j =
+    c .before .before .before .squared-distance .ensures
     ∙ rw (c .before .before .before .before .before .table-point .ensures, c .before .before .before .before .point-at .ensures)
-    (ap (λ p. distance p (pointAt (a .points .now) (a .i * a .table .count + j)))
+    (ap (λ p. squaredDistance p (pointAt (a .points .now) (a .i * a .table .count + j)))
     (read-kept (a .out) (a .out + j) (a .work .now) (l .loop .work) (rw (l .loop .inv .2) (kept-laid (a .out) j G (a .work .now) (omega arith))) (a .table) (a .index .now) (a .poles) (a .poles + 3 * (a .rows * a .m)) (a .i * a .m) j (omega arith) (omega arith) (omega arith))) in
     let old : at (l .loop .work) (a .out + j) ≡ at (a .work .now) (a .out + j) = ap (λ (w : List Float). at w (a .out + j)) (l .loop .inv .2) ∙ laid-above (a .out) j G (a .work .now) (a .out + j) nan (omega arith) in
     let put = laid-next (a .out) j G (a .work .now) (l .loop .work) (c .max .result) (l .loop .inv .2) (c .max .ensures ∙ rw (old, e)) in
-    (omega arith, ap length put ∙ length-laid (a .out) (j + 1) G (a .work .now), put, measured-next j D (l .loop .total) (c .before .before .with-one .result) (c .before .before .before .distance .result) (l .loop .inv .3) e (c .before .before .with-one .ensures))
+    (omega arith, ap length put ∙ length-laid (a .out) (j + 1) G (a .work .now), put, squares-next j D (l .loop .total) (c .before .before .with-square .result) (c .before .before .before .squared-distance .result) (l .loop .inv .3) e (c .before .before .with-square .ensures))
+
+rooted-requires : tie.Need-rooted-requires Inv-loop μ-loop
+rooted-requires c κs = search needs
 
 same-length : tie.Need-same-length Inv-loop μ-loop
 same-length c = search needs
 
 returns : tie.Need-returns Inv-loop μ-loop
 returns c =
-    let l = c .before in
-    let a = c .before .before .before .before .before .args in
+    let l = c .before .before in
+    let a = c .before .before .before .before .before .before .args in
     let z : l .loop .j ≡ a .table .count = omega arith in
-    (rw z at (l .loop .inv .3), rw z at (l .loop .inv .2))
+    let t = tableIn (a .table) (a .work .now) (a .index .now) in
+    (rooted-measured (λ j. tablePoint t (part (a .poles) (a .poles + 3 * (a .rows * a .m)) (a .work .now)) (a .i * a .m) j) (λ j. pointAt (a .points .now) (a .i * a .table .count + j)) (a .table .count) (l .loop .total) (c .rooted .result) (rw z at (l .loop .inv .3)) (c .rooted .ensures), rw z at (l .loop .inv .2))
 
 pub row-distances-spec : {M : Type 1} → statement M
 row-distances-spec =
@@ -143,8 +148,8 @@ row-distances-spec =
     table-point-requires
     add-point-at
     point-at-requires
-    distance-requires
-    with-one-requires
+    squared-distance-requires
+    with-square-requires
     add-max
     mul-max
     slice-read-max
@@ -155,5 +160,6 @@ row-distances-spec =
     add-j
     loop-less
     loop-again
+    rooted-requires
     same-length
     returns)
