@@ -9,6 +9,7 @@ pub mod RootOrder
 pub mod Examples
 pub mod Whole
 mod Steps
+mod QuickLaws
 pub mod Patterns
 mod Special
 mod WholePart

@@ -1,6 +1,6 @@
--- `sqrtOf` at a NaN, a zero, a negative value and the infinity, by the tests that `sqrt` makes. Assumes nothing.
+-- `sqrtOf` at a NaN, a zero, a negative value and the infinity, by the tests that `sqrt` makes, and at a positive value by its pattern. Assumes nothing.
 use mathlib.Core.Path.{_≡_, refl, sym, ap, _∙_, subst}
-use Prim.Native.Nat.{ℕ, zero, suc, _+_, _*_, _<_, _≤_}
+use Prim.Native.Nat.{ℕ, zero, suc, _+_, _*_, _^_, _<_, _≤_}
 use native.Mathlib.Nat.{mul-pos, zero-lt-suc, zero-mul, mul-one, lt-irrefl, eq-zero-or-pos}
 use native.Mathlib.Omega.{arith}
 use mathlib.Core.Logic.{_⊎_, inl, inr}
@@ -8,11 +8,13 @@ use mathlib.Core.Bool.{Bool, true, false, not, _&&_, _||_, Bool·beq, true≢fal
 use borrow.Author.Tests.{ltb-true, ltb-false}
 use lib.IntN.{ℤ}
 use lib.Dec.{T, ltb, eqb, eqb→eq, lt→ltb}
-use lib.Ieee.{Float, nan, inf, fin, binary64, up, down, ofBits, toBits, isNan, div, lt, eq, ne, fits}
+use lib.Ieee.{Float, nan, inf, fin, binary64, up, down, ofBits, toBits, nanBits, isNan, div, lt, eq, ne, fits}
 use lib.Ieee.Fits.{up-pos, down-pos, and-l}
 use lib.Ieee.Bits.{ofBits-toBits}
+use lib.Ieee.Exact.{HasValue}
 use Rattle.geometry.specs.Root.{sqrtOf}
-use Rattle.geometry.proofs.Patterns.{NotPositive, not-positive}
+use Rattle.geometry.specs.RootSteps.{rootBits, patternUnits}
+use Rattle.geometry.proofs.Patterns.{NotPositive, not-positive, value-of, units-range, squared-range, root-pattern, root-no-nan, sqrt-at}
 
 -- the size of m * 2 ^ e, m above 0, as `lt` and `eq` compare it with 0
 size-pos : (m : ℕ) (e : ℤ) → 0 < suc m * up e * 1
@@ -78,3 +80,17 @@ at-infinity (inf false) t n = refl
 at-infinity (fin s zero e) t n = refl
 at-infinity (fin true (suc m) e) t n = let h = ltb-false 0 (suc m * up e * 1 + 0 * down e) t in let k = size-pos m e in absurd (omega arith)
 at-infinity (fin false (suc m) e) t n = absurd n
+
+-- the pattern of a positive finite value's root is that of a number, which is the root
+module _ (b r : ℕ) (pos : 0 < b) (finite : b < 9218868437227405312) (e : r ≡ rootBits (patternUnits b * 2 ^ 1074)) where
+  range : (2 ^ 1074 ≤ patternUnits b * 2 ^ 1074) × (patternUnits b * 2 ^ 1074 < 2 ^ 3172)
+  range = let u = units-range b pos finite in squared-range (patternUnits b) (u .0) (u .1)
+
+  pub root-is-number : T (not (nanBits binary64 r))
+  root-is-number = subst (λ (t : Bool). T (not t)) (sym (ap (nanBits binary64) e ∙ root-no-nan (patternUnits b * 2 ^ 1074) (range .0) (range .1))) tt
+
+  pub at-positive : (x : Float) → T (fits binary64 x) → toBits binary64 x ≡ b → ofBits binary64 r ≡ sqrtOf x
+  at-positive x h same =
+      let v : HasValue x false (patternUnits b) (2 ^ 1074) =
+      subst (λ (y : Float). HasValue y false (patternUnits b) (2 ^ 1074)) (ap (ofBits binary64) (sym same) ∙ ofBits-toBits binary64 x h) (value-of b finite) in
+      ap (ofBits binary64) e ∙ root-pattern (patternUnits b * 2 ^ 1074) (range .0) (range .1) ∙ sym (sqrt-at x (patternUnits b) (units-range b pos finite .0) v)

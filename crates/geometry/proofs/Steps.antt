@@ -153,10 +153,10 @@ short-range m q rest b r =
     let w = root-range (2 ^ 26) (2 ^ 27) m q rest r (b .0) (b .1) in
     (r .small, w .0, w .1)
 
-module _ (s p a b q rest : ℕ) (lo : 2 ^ 52 ≤ s) (hi : s < 2 ^ 53) (short : RootOf (s * (1 + p % 2)) a b) (long : RootOf ((a * a + b) * 2 ^ 52) q rest) where
-  all : RootOf (s * (1 + p % 2) * 2 ^ 52) q rest
-  all = subst (λ (n : ℕ). RootOf (n * 2 ^ 52) q rest) (short .whole) long
+pub both : (n a b q rest : ℕ) → RootOf n a b → RootOf ((a * a + b) * 2 ^ 52) q rest → RootOf (n * 2 ^ 52) q rest
+both n a b q rest short long = subst (λ (n : ℕ). RootOf (n * 2 ^ 52) q rest) (short .whole) long
 
+module _ (s p q rest : ℕ) (lo : 2 ^ 52 ≤ s) (hi : s < 2 ^ 53) (all : RootOf (s * (1 + p % 2) * 2 ^ 52) q rest) where
   pub long-range : (2 ^ 52 ≤ q) × (q < 2 ^ 53)
   long-range =
       let d = doubled s p lo hi in

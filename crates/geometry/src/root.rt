@@ -1,9 +1,10 @@
-// The square root of an f64, correctly rounded, in whole numbers: a guess and two steps of Heron give the root of 54 binary digits, one division the other 26.
+// The square root of an f64, correctly rounded, in whole numbers. The quick way is a guess from tables with one step of Newton, and a test that what comes of it is
+// the root; where it is not, a guess and two steps of Heron give the root of 54 binary digits, and one division the other 26.
 
 ghost use mathlib.Core.Path.{_≡_};
 ghost use Prim.Native.Nat.{_+_, _-_, _*_, _/_, _^_, _≤_, _<_};
 ghost use Rattle.geometry.specs.Root.{sqrtOf};
-ghost use Rattle.geometry.specs.RootSteps.{RootOf, rootBits, patternUnits};
+ghost use Rattle.geometry.specs.RootSteps.{RootOf, rootBits, patternUnits, quickIs, nearestTo};
 
 // The whole part q of the root of a whole number n, and the rest n - q * q.
 pub struct Root {
@@ -99,7 +100,7 @@ fn positive_bits(b: u64) -> u64
 }
 
 // The square root of x, rounded to the nearest f64.
-pub fn sqrt(x: f64) -> f64
+fn careful_sqrt(x: f64) -> f64
     ensures { λ r. ⌜ r ≡ sqrtOf x ⌝ }
 {
     if x != x {
@@ -117,4 +118,70 @@ pub fn sqrt(x: f64) -> f64
     } else {
         x
     }
+}
+
+// What the quick way comes to.
+pub enum Quick {
+    At(u64),
+    Nothing,
+}
+
+// A guess at 2^31 / √x, where x from 1 to 4 has the digits of the bit pattern b, by the parity of its exponent.
+fn reciprocal(b: u64) -> u64
+    ensures { λ r. ⌜ r < 2 ^ 31 ⌝ }
+{
+    let i = (b >> 44) % 512;
+    let t = 0x7fff_ffff - (b >> 13) % 0x8000_0000;
+    let curve = seeds::curve(i);
+    let slope = curve % 0x1_0000_0000 + ((t * (curve >> 32)) >> 39);
+    (seeds::level(i) as u64 + ((t * slope) >> 41)) % 0x8000_0000
+}
+
+// The root of n * 2^44 to the nearest whole number, from a guess y at 2^61 / √n: 31 digits by one product, the others by a step of Newton. The last test is that it
+// is, by how far n * 2^44 lies below the square of the root's upper neighbour at one half.
+fn quick_root(n: u64, y: u64) -> Quick
+    requires { ⌜ (2 ^ 60 ≤ n) × (n < 2 ^ 62) × (y < 2 ^ 31) ⌝ }
+    ensures { λ r. ⌜ quickIs (nearestTo (n * 2 ^ 44)) r ⌝ }
+{
+    let q = ((n >> 29) * y) >> 32;
+    let r = std::num::wrapping_sub_u64(n, q * q);
+    if r >= 33_999_999_999 {
+        return Quick::Nothing;
+    }
+    let c = ((r >> 2) * y + 0x21_0000_0000) >> 38;
+    let square = 2 * (q * c) + q + ((c * (c + 1)) >> 22);
+    if std::num::wrapping_sub_u64(square, r * 0x40_0000) / 2 < q {
+        Quick::At(q * 0x40_0000 + c)
+    } else {
+        Quick::Nothing
+    }
+}
+
+// The bit pattern of the root of the value whose bit pattern is b, at 2^-1022 or above.
+fn quick_bits(b: u64) -> Quick
+    requires { ⌜ (1 ≤ b / 2 ^ 52) × (b / 2 ^ 52 ≤ 2046) ⌝ }
+    ensures { λ r. ⌜ quickIs (λ x. x ≡ rootBits (patternUnits b * 2 ^ 1074)) r ⌝ }
+{
+    let s = 0x10_0000_0000_0000 + b % 0x10_0000_0000_0000;
+    let p = (b >> 52) + 1021;
+    match quick_root(s << (8 + p % 2), reciprocal(b)) {
+        Quick::Nothing => Quick::Nothing,
+        Quick::At(q) => Quick::At(p / 2 * 0x10_0000_0000_0000 + q),
+    }
+}
+
+// The square root of x, rounded to the nearest f64.
+pub fn sqrt(x: f64) -> f64
+    ensures { λ r. ⌜ r ≡ sqrtOf x ⌝ }
+{
+    if x != x {
+        return x;
+    }
+    let b = f64::to_bits(x);
+    if std::num::wrapping_sub_u64(b >> 52, 1) < 2046 {
+        if let Quick::At(bits) = quick_bits(b) {
+            return f64::from_bits(bits);
+        }
+    }
+    careful_sqrt(x)
 }

@@ -2,7 +2,7 @@
 use borrow.Author.Needs.{needs}
 use Prim.Native.Nat.{_≤_, _<_, _^_}
 use native.Mathlib.Omega.{arith}
-use Rattle.geometry.proofs.Steps.{doubled, short-range, long-range, bits-up, bits-down}
+use Rattle.geometry.proofs.Steps.{doubled, short-range, both, long-range, bits-up, bits-down}
 use Rattle.geometry.proofs.root.root_bits.Statement.{statement}
 use Rattle.geometry.proofs.root.root_bits.Tie as tie
 use Rattle.geometry.proofs.root.root_bits.Reads as reads
@@ -30,7 +30,7 @@ mul-down c = search needs
 range : (c : tie.After-long-root) → (2 ^ 52 ≤ c .long-root .result .q) × (c .long-root .result .q < 2 ^ 53)
 range c =
     let a = c .before .before in
-    long-range (a .args .s) (a .args .p) _ _ _ _ (a .pre .0) (a .pre .1) (c .before .short-root .ensures) (c .long-root .ensures)
+    long-range (a .args .s) (a .args .p) _ _ (a .pre .0) (a .pre .1) (both _ _ _ _ _ (c .before .short-root .ensures) (c .long-root .ensures))
 
 add-down : tie.Need-add-down
 add-down c = let r = range (c .before) in omega arith
@@ -42,13 +42,13 @@ returns : tie.Need-returns
 returns c =
     let l = c .before .before .before in
     let a = l .before .before in
-    bits-up (a .args .s) (a .args .p) _ _ _ _ (a .pre .0) (a .pre .1) (l .before .short-root .ensures) (l .long-root .ensures) (c .if1 .taken)
+    bits-up (a .args .s) (a .args .p) _ _ (a .pre .0) (a .pre .1) (both _ _ _ _ _ (l .before .short-root .ensures) (l .long-root .ensures)) (c .if1 .taken)
 
 returns-2 : tie.Need-returns-2
 returns-2 c =
     let l = c .before .before .before in
     let a = l .before .before in
-    bits-down (a .args .s) (a .args .p) _ _ _ _ (a .pre .0) (a .pre .1) (l .before .short-root .ensures) (l .long-root .ensures) (c .if1 .left)
+    bits-down (a .args .s) (a .args .p) _ _ (a .pre .0) (a .pre .1) (both _ _ _ _ _ (l .before .short-root .ensures) (l .long-root .ensures)) (c .if1 .left)
 
 pub root-bits-spec : {M : Type 1} → statement M
 root-bits-spec =

@@ -1,66 +1,79 @@
--- `root::sqrt` meets its contract. Assumes nothing.
+-- `root::sqrt` meets its contract: what the quick way finds is the root's pattern, and where it finds nothing the careful way answers. Assumes nothing.
 use borrow.Author.Needs.{needs}
-use mathlib.Core.Path.{_≡_, sym, ap, _∙_, subst}
-use mathlib.Core.Bool.{Bool, false, not}
-use Prim.Native.Nat.{_*_, _^_, _<_, _≤_}
+use mathlib.Core.Path.{_≡_, refl, sym, subst}
+use Prim.Native.Nat.{ℕ, _*_, _/_, _^_, _≤_, _<_}
+use native.Mathlib.Omega.{arith}
 use lib.Dec.{T}
-use lib.Ieee.{Float, binary64, fits, ofBits, toBits, nanBits}
-use lib.Ieee.Bits.{ofBits-toBits}
-use lib.Ieee.Exact.{HasValue}
-use Rattle.geometry.specs.RootSteps.{patternUnits}
-use Rattle.geometry.proofs.Patterns.{NotPositive, value-of, not-positive, units-range, squared-range, root-pattern, root-no-nan, sqrt-at}
-use Rattle.geometry.proofs.Special.{at-nan, at-zero, at-negative, not-zero, at-infinity}
+use lib.Ieee.{binary64, fits, toBits}
+use Rattle.geometry.specs.RootSteps.{rootBits, patternUnits, quickIs}
+use Rattle.geometry.proofs.Special.{at-nan, root-is-number, at-positive}
 use Rattle.geometry.proofs.DoubleLaws.{a-number}
 use Rattle.geometry.proofs.root.sqrt.Statement.{statement}
 use Rattle.geometry.proofs.root.sqrt.Tie as tie
+use Rattle.geometry.proofs.root.sqrt.Reads as reads
+use Rattle.geometry.proofs.root.sqrt.Lts as lts
+use Rattle.geometry.proofs.root.careful_sqrt.Reads as careful-sqrt-reads
+use Rattle.geometry.proofs.root.quick_bits.Reads as quick-bits-reads
+use Rattle.std.proofs.num.wrapping_sub_u64.Reads as wrapping-sub-u64-reads
 
 -- what owning an `f64` tells: the format holds it
 held : (c : tie.Start) → T (fits binary64 (c .args .x))
 held c = subst T (sym (c .good .0 .1)) tt
 
--- ---- at the call of `positive_bits`: x is the value of its pattern b, which lies between 0 and the infinity's
-pattern-pos : (c : tie.Then4) → 0 < toBits binary64 (c .before .before .before .before .args .x)
-pattern-pos c = not-zero (c .before .before .before .before .args .x) (held (c .before .before .before .before)) (c .before .before .if2 .left)
-
 returns : tie.Need-returns
 returns c = at-nan (c .before .args .x) (c .if1 .taken)
 
-returns-2 : tie.Need-returns-2
-returns-2 c = at-zero (c .before .before .args .x) (c .if2 .taken)
-
-returns-3 : tie.Need-returns-3
-returns-3 c = at-negative (c .before .before .before .args .x) (c .if3 .taken)
-
 float-to-bits-b : tie.Need-float-to-bits-b
-float-to-bits-b c = a-number (c .before .before .before .args .x) (c .before .before .if1 .left)
+float-to-bits-b c = a-number (c .before .args .x) (c .if1 .left)
 
-positive-bits-requires : tie.Need-positive-bits-requires
-positive-bits-requires c κs = (pattern-pos c, c .if4 .taken)
+wrapping-sub-u64-requires : tie.Need-wrapping-sub-u64-requires
+wrapping-sub-u64-requires c κs = search needs
+
+quick-bits-requires : tie.Need-quick-bits-requires
+quick-bits-requires c κs = search needs
+
+enum-known-bits : tie.Need-enum-known-bits
+enum-known-bits c = search needs
+
+-- at what was found: x's pattern, and that of the root
+module _ (c : tie.After-known-told) where
+  abbrev start : tie.Start
+  start = c .before .before .before .before .before .before .before
+
+  abbrev pattern : ℕ
+  pattern = toBits binary64 (start .args .x)
+
+  above : 0 < pattern
+  above =
+      let w = c .before .before .before .before .before .wrapping-sub-u64 .ensures in
+      let h = c .before .before .before .before .if2 .taken in
+      omega arith
+
+  below : pattern < 9218868437227405312
+  below =
+      let w = c .before .before .before .before .before .wrapping-sub-u64 .ensures in
+      let h = c .before .before .before .before .if2 .taken in
+      omega arith
+
+  found : c .before .bits .given .0 .0 ≡ rootBits (patternUnits pattern * 2 ^ 1074)
+  found = subst (quickIs (λ (x : ℕ). x ≡ rootBits (patternUnits pattern * 2 ^ 1074))) (c .before .bits .given .1) (c .before .before .before .quick-bits .ensures)
 
 float-from-bits-result : tie.Need-float-from-bits-result
-float-from-bits-result c =
-    let b = toBits binary64 (c .before .before .before .before .before .args .x) in
-    let u = units-range b (pattern-pos (c .before)) (c .before .if4 .taken) in
-    let n = squared-range (patternUnits b) (u .0) (u .1) in
-    subst (λ (t : Bool). T (not t)) (sym (ap (nanBits binary64) (c .positive-bits .ensures) ∙ root-no-nan (patternUnits b * 2 ^ 1074) (n .0) (n .1))) tt
+float-from-bits-result c = root-is-number (pattern c) _ (above c) (below c) (found c)
 
-returns-4 : tie.Need-returns-4
-returns-4 c =
-    let x = c .before .before .before .before .before .args .x in
-    let b = toBits binary64 x in
-    let u = units-range b (pattern-pos (c .before)) (c .before .if4 .taken) in
-    let n = squared-range (patternUnits b) (u .0) (u .1) in
-    let v : HasValue x false (patternUnits b) (2 ^ 1074) =
-    subst (λ (y : Float). HasValue y false (patternUnits b) (2 ^ 1074)) (ofBits-toBits binary64 x (held (c .before .before .before .before .before))) (value-of b (c .before .if4 .taken)) in
-    ap (ofBits binary64) (c .positive-bits .ensures) ∙ root-pattern (patternUnits b * 2 ^ 1074) (n .0) (n .1) ∙ sym (sqrt-at x (patternUnits b) (u .0) v)
+returns-2 : tie.Need-returns-2
+returns-2 c = at-positive (pattern c) _ (above c) (below c) (found c) (start c .args .x) (held (start c)) refl
 
-returns-5 : tie.Need-returns-5
-returns-5 c =
-    let x = c .before .before .before .before .args .x in
-    at-infinity x (c .before .if3 .left)
-    (subst NotPositive (ofBits-toBits binary64 x (held (c .before .before .before .before))) (not-positive (toBits binary64 x) (c .if4 .left)))
+enum-told : tie.Need-enum-told
+enum-told c = search needs
+
+careful-sqrt-requires : tie.Need-careful-sqrt-requires
+careful-sqrt-requires c κs = search needs
+
+returns-3 : tie.Need-returns-3
+returns-3 c = search needs
 
 pub sqrt-spec : {M : Type 1} → statement M
 sqrt-spec =
     tie.close
-    (tie.spec returns returns-2 returns-3 float-to-bits-b positive-bits-requires float-from-bits-result returns-4 returns-5)
+    (tie.spec returns float-to-bits-b wrapping-sub-u64-requires quick-bits-requires enum-known-bits float-from-bits-result returns-2 enum-told careful-sqrt-requires returns-3)
