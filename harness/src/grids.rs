@@ -10,9 +10,8 @@ use crate::points;
 use crate::random::{Random, all_same};
 use crate::surfaces::BSplineSurface;
 use crate::surfaces::fitting::pieces as grid_pieces;
-use std::collections::BTreeMap;
+use crate::tally::{self, Tally};
 use std::hint::black_box;
-use std::time::{Duration, Instant};
 
 const NAMES: [&str; 2] = ["approximate_grid", "approximate_grid_within"];
 const DIRECTIONS: [&str; 2] = ["u", "v"];
@@ -123,20 +122,20 @@ impl Side {
         KnotVector::new(self.degree, self.knots.clone(), self.mults.clone(), false, self.poles()).is_err()
     }
 
-    /// The rare corners, and whether it stands in each.
-    fn corners(&self) -> [(&'static str, bool); 8] {
-        [
-            ("spread below a refinement that fits", self.fewer),
-            ("unreadable deviations", self.unreadable > 0),
-            ("unreadable deviations, not interpolated", self.unreadable > 0 && self.mark != 3),
-            ("largest infinite", self.largest.is_infinite()),
-            ("inner knots repeat", self.repeats()),
-            ("distinct knots do not rise", self.falls()),
-            ("the reader refuses the knots", self.unread()),
-            ("a value stands outside the band", self.drops),
-        ]
-    }
 }
+
+/// The rare corners: whether a direction of a fit stands in each.
+const RARE: [(&str, fn(&Side) -> bool); 9] = [
+    ("spread below a refinement that fits", |side| side.fewer),
+    ("unreadable deviations", |side| side.unreadable > 0),
+    ("unreadable deviations, not interpolated", |side| side.unreadable > 0 && side.mark != 3),
+    ("unreadable deviations, largest 0", |side| side.unreadable > 0 && side.largest == 0.0),
+    ("largest infinite", |side| side.largest.is_infinite()),
+    ("inner knots repeat", Side::repeats),
+    ("distinct knots do not rise", Side::falls),
+    ("the reader refuses the knots", Side::unread),
+    ("a value outside the band", |side| side.drops),
+];
 
 #[derive(Default)]
 struct Fit {
@@ -152,8 +151,13 @@ struct Refusal {
 }
 
 const LENGTH: &str = "the length";
+const COORDINATE: &str = "a coordinate";
 
 impl Refusal {
+    fn name(self) -> String {
+        format!("{} for {}", self.number, self.of)
+    }
+
     /// Whether it comes after the checks up to 10, so that work and index are cleared.
     fn cleared(self) -> bool {
         [3, 4, 5].contains(&self.number) || self.number == 6 && self.of != LENGTH
@@ -182,7 +186,7 @@ fn early(c: &Call) -> Result<(), Refusal> {
     for slice in 0..11 {
         stop_if(lent[slice] < needed[slice], 9, SLICES[slice])?;
     }
-    stop_if(c.places.iter().any(|x| !x.is_finite() || x.abs() > 1_000_000.0), 10, "a coordinate")
+    stop_if(c.places.iter().any(|x| !x.is_finite() || x.abs() > 1_000_000.0), 10, COORDINATE)
 }
 
 /// Document 01's checks from 5 on, up to the steps.
@@ -308,11 +312,11 @@ fn smallest(mut c: Call) -> Call {
     c
 }
 
-/// Prints a call that differs, and with its points the smallest found that does.
-fn tell(c: &Call, what: &str) {
-    println!("different: {what}\n{}", c.line());
+/// A call that differs, and with its points the smallest found that does.
+fn told(c: &Call, what: &str) -> String {
     let less = smallest(c.clone());
-    println!("smallest: {}\n{}\n{}", difference(&less, &answer(&less)).unwrap_or_default(), less.line(), less.words());
+    let still = difference(&less, &answer(&less)).unwrap_or_default();
+    format!("different: {what}\n{}\nsmallest: {still}\n{}\n{}", c.line(), less.line(), less.words())
 }
 
 /// How many rows and columns: mostly few.
@@ -470,89 +474,63 @@ fn skips(c: &Call, d: usize) -> bool {
     (0..c.size[1 - d]).any(|r| length(r) <= crate::tol::CONFUSION)
 }
 
-/// What the calls of a run were like.
-#[derive(Default)]
-struct Tally {
-    calls: [u64; 2],
-    marks: BTreeMap<(usize, usize), u64>,
-    refusals: BTreeMap<Refusal, u64>,
-    corners: BTreeMap<&'static str, [u64; 2]>,
-    short: u64,
+const CALLS: &str = "grid calls";
+const REFUSALS: &str = "grid refusals";
+const PAIRS: &str = "grid marks of u and v";
+const CORNERS: [&str; 2] = ["grid corners along u", "grid corners along v"];
+const SIZES: [&str; 2] = ["grid rows", "grid columns"];
+const DEGREES: [&str; 2] = ["degrees of grid fits along u", "degrees of grid fits along v"];
+const SHORT: &str = "grid calls with a slice too short";
+const SKIPPED: &str = "a line is skipped";
+
+/// What a report shows, none of it met.
+pub fn expected() -> Tally {
+    let both = [(8, LINES), (2, DIRECTIONS), (1, LINES), (5, DIRECTIONS), (3, DIRECTIONS), (4, DIRECTIONS), (6, LINES)];
+    let refusals = both.iter().flat_map(|&(number, of)| of.map(|of| (number, of))).chain([(6, LENGTH), (10, COORDINATE)]).chain(SLICES.map(|of| (9, of)));
+    let pairs = (1..4).flat_map(|u| (1..4).map(move |v| (u, v))).chain([(4, 4)]);
+    let tally = Tally::default().expect(CALLS, NAMES.into_iter().chain([SHORT])).expect(PAIRS, pairs.map(|(u, v)| pair(u, v)));
+    let mut tally = tally.expect(REFUSALS, refusals.map(|(number, of)| Refusal { number, of }.name()));
+    for d in 0..2 {
+        tally = tally.expect(CORNERS[d], RARE.iter().map(|(name, _)| *name).chain([SKIPPED])).expect(SIZES[d], 0..=66).expect(DEGREES[d], 1..=25);
+    }
+    tally
 }
 
-impl Tally {
-    fn add(&mut self, c: &Call, answer: &Answer) {
-        self.calls[c.entry()] += 1;
-        self.short += c.extra.iter().any(|&e| e < 0) as u64;
-        match answer {
-            Err(refusal) => *self.refusals.entry(*refusal).or_default() += 1,
-            Ok(fit) => self.add_fit(c, fit),
-        }
-    }
+fn pair(u: usize, v: usize) -> String {
+    format!("{} and {}", MARKS[u], MARKS[v])
+}
 
-    fn add_fit(&mut self, c: &Call, fit: &Fit) {
-        *self.marks.entry((fit.sides[0].mark, fit.sides[1].mark)).or_default() += 1;
-        for (d, side) in fit.sides.iter().enumerate() {
-            for (name, stands) in side.corners().into_iter().chain([("a line is skipped", skips(c, d))]) {
-                self.corners.entry(name).or_default()[d] += stands as u64;
-            }
-        }
+fn count(tally: &mut Tally, c: &Call, answer: &Answer) {
+    tally.count(CALLS, NAMES[c.entry()], 1);
+    tally.count(CALLS, SHORT, c.extra.iter().any(|&e| e < 0) as u64);
+    for d in 0..2 {
+        tally.count(SIZES[d], &if c.size[d] <= 66 { c.size[d].to_string() } else { "over 66".into() }, 1);
     }
+    match answer {
+        Err(refusal) => tally.count(REFUSALS, &refusal.name(), 1),
+        Ok(fit) => count_fit(tally, c, fit),
+    }
+}
 
-    /// Marks and refusals of which there was none.
-    fn missing(&self) -> Vec<String> {
-        let marks = (1..5).flat_map(|m| [(m, 0), (m, 1)]).filter(|&(m, d)| !self.marks.keys().any(|&(u, v)| [u, v][d] == m));
-        let marks = marks.map(|(m, d)| format!("{} along {}", MARKS[m], DIRECTIONS[d]));
-        let both = [(8, LINES), (2, DIRECTIONS), (1, LINES), (5, DIRECTIONS), (3, DIRECTIONS), (4, DIRECTIONS), (6, LINES)];
-        let mut wanted: Vec<(u32, &str)> = both.iter().flat_map(|&(number, of)| of.map(|of| (number, of))).collect();
-        wanted.extend([(6, LENGTH), (10, "a coordinate")]);
-        wanted.extend(SLICES.map(|of| (9, of)));
-        let refusals = wanted.into_iter().filter(|&(number, of)| !self.refusals.contains_key(&Refusal { number, of }));
-        marks.chain(refusals.map(|(number, of)| format!("{number} for {of}"))).collect()
+fn count_fit(tally: &mut Tally, c: &Call, fit: &Fit) {
+    tally.count(PAIRS, &pair(fit.sides[0].mark, fit.sides[1].mark), 1);
+    for (d, side) in fit.sides.iter().enumerate() {
+        tally.count(DEGREES[d], &side.degree.to_string(), 1);
+        tally.count(CORNERS[d], SKIPPED, skips(c, d) as u64);
+        RARE.iter().for_each(|(name, stands)| tally.count(CORNERS[d], name, stands(side) as u64));
     }
+}
 
-    fn report(&self, seed: u64, different: u64) {
-        let calls: Vec<String> = NAMES.iter().zip(self.calls).map(|(name, n)| format!("{name} {n}")).collect();
-        println!("grids: {} calls, seed {seed}: {}", self.calls.iter().sum::<u64>(), calls.join(", "));
-        let along = |d: usize, m: usize| self.marks.iter().filter(|((u, v), _)| [*u, *v][d] == m).map(|(_, n)| n).sum::<u64>();
-        for (d, name) in DIRECTIONS.iter().enumerate() {
-            let marks: Vec<String> = (1..5).map(|m| format!("{} {}", MARKS[m], along(d, m))).collect();
-            println!("marks along {name}: {}", marks.join(", "));
-        }
-        let pairs: Vec<String> = self.marks.iter().map(|(&(u, v), n)| format!("{} and {} {n}", MARKS[u], MARKS[v])).collect();
-        println!("marks of u and v: {}", pairs.join(", "));
-        let refusals: Vec<String> = self.refusals.iter().map(|(Refusal { number, of }, n)| format!("{number} for {of} {n}")).collect();
-        println!("refusals: {}", refusals.join(", "));
-        println!("slices too short {}", self.short);
-        for (name, [u, v]) in &self.corners {
-            println!("{name}: along u {u}, along v {v}");
-        }
-        let missing = self.missing();
-        println!("met by no call: {}", if missing.is_empty() { "nothing".into() } else { missing.join(", ") });
-        println!("{different} different");
-    }
+/// Makes and counts a call; what differs from the Rust's, if anything does.
+pub fn one(random: &mut Random, tally: &mut Tally) -> Option<String> {
+    let c = call(random);
+    let wanted = answer(&c);
+    count(tally, &c, &wanted);
+    difference(&c, &wanted).map(|what| told(&c, &what))
 }
 
 pub fn compare(count: u64, seed: u64) -> u64 {
-    let mut random = Random::new(seed);
-    let mut tally = Tally::default();
-    let mut told = Instant::now();
-    for done in 0..count {
-        if told.elapsed() > Duration::from_secs(10) {
-            eprintln!("{done} of {count} calls");
-            told = Instant::now();
-        }
-        let c = call(&mut random);
-        let wanted = answer(&c);
-        tally.add(&c, &wanted);
-        if let Some(what) = difference(&c, &wanted) {
-            tell(&c, &what);
-            tally.report(seed, 1);
-            return 1;
-        }
-    }
-    tally.report(seed, 0);
-    0
+    tally::run("grids", count, seed, expected(), |random, _, tally| (1, one(random, tally)))
 }
 
 /// A call with something that is said of its answer.

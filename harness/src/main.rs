@@ -14,6 +14,7 @@ pub use surfaces::BSplineSurface;
 pub use tolerance::Tolerance;
 pub use vector::{Vector2D, Vector3D};
 
+mod all;
 mod bands;
 mod grids;
 mod guarded;
@@ -25,6 +26,7 @@ mod random;
 mod readings;
 mod roots;
 mod tables;
+mod tally;
 
 fn main() {
     let words: Vec<String> = std::env::args().skip(1).collect();
@@ -38,6 +40,7 @@ fn main() {
         Some("ladders") => ladders::compare(number(1, 20_000), number(2, 1)),
         Some("grids") => grids::compare(number(1, 20_000), number(2, 1)),
         Some("card") => ladders::cards::compare(number(1, 20_000), number(2, 1)),
+        Some("all") => all::compare(number(1, 100_000), number(2, 1), number(3, 1)),
         Some("try") => ladders::compare_stated() + grids::compare_stated(),
         Some("list") if words.len() == 2 => ladders::list(&words[1]),
         Some("bench") => {
@@ -51,7 +54,7 @@ fn main() {
         }
         _ => {
             eprintln!("beside roots COUNT SEED | readings COUNT SEED | knots COUNT SEED | bands COUNT SEED | tables COUNT SEED");
-            eprintln!("     | ladders COUNT SEED | grids COUNT SEED | card COUNT SEED | try | list FILE | bench");
+            eprintln!("     | ladders COUNT SEED | grids COUNT SEED | card COUNT SEED | all COUNT SEED THREADS | try | list FILE | bench");
             std::process::exit(2)
         }
     };

@@ -4,7 +4,7 @@ use crate::curve_math::bspline::KnotVector;
 use crate::curves::BSplineConstructionError as Error;
 use crate::ours;
 use crate::random::{Random, all_same, least_seconds};
-use std::collections::BTreeMap;
+use crate::tally::{self, Tally};
 use std::hint::black_box;
 
 /// The parts of a curve and a parameter.
@@ -141,40 +141,108 @@ fn damaged(random: &mut Random, c: &mut Case) {
     }
 }
 
-pub fn compare(count: u64, seed: u64) -> u64 {
-    let mut random = Random::new(seed);
-    let mut different = 0;
-    let mut answers: BTreeMap<u32, u64> = BTreeMap::new();
-    let mut done = 0;
-    while done < count {
-        let mut case = valid(&mut random);
-        if random.one_in(3) {
-            for _ in 0..random.from_to(1, 2) {
-                if !case.knots.is_empty() && !case.mults.is_empty() {
-                    damaged(&mut random, &mut case);
-                }
-            }
-        }
-        for _ in 0..if case.knots.len() > 1 { 4 } else { 1 } {
-            let (theirs, point) = reference(&case);
-            let mut out = [7.0; 5];
-            let ours = ours::read(&case.poles, case.degree, &case.knots, &case.mults, case.u, &mut out[..4]);
-            let wanted = if theirs == 0 { [point[0], point[1], point[2], 7.0, 7.0] } else { [7.0; 5] };
-            *answers.entry(theirs).or_default() += 1;
-            done += 1;
-            if ours != theirs || !all_same(&out, &wanted) {
-                different += 1;
-                if different < 5 {
-                    println!("different: {theirs} {point:?} against {ours} {out:?} for {case:?}");
-                }
-            }
-            if !case.knots.is_empty() {
-                case.u = parameter(&mut random, &case.knots);
+/// A curve, valid or damaged.
+fn any(random: &mut Random) -> Case {
+    let mut case = valid(random);
+    if random.one_in(3) {
+        for _ in 0..random.from_to(1, 2) {
+            if !case.knots.is_empty() && !case.mults.is_empty() {
+                damaged(random, &mut case);
             }
         }
     }
-    println!("readings: {done}, seed {seed}, by answer {answers:?}: {different} different");
-    different
+    case
+}
+
+/// What differs from the Rust's answer after our reading, if anything does.
+fn difference(case: &Case, (theirs, point): (u32, [f64; 3])) -> Option<String> {
+    let mut out = [7.0; 5];
+    let ours = ours::read(&case.poles, case.degree, &case.knots, &case.mults, case.u, &mut out[..4]);
+    let wanted = if theirs == 0 { [point[0], point[1], point[2], 7.0, 7.0] } else { [7.0; 5] };
+    (ours != theirs || !all_same(&out, &wanted)).then(|| format!("{ours} with {out:?}, not {theirs} with {wanted:?}"))
+}
+
+/// The case with the knot of this number left out, and as many poles as its multiplicity asks.
+fn without(case: &Case, i: usize) -> Case {
+    let mut less = case.clone();
+    let poles = if i < less.mults.len() { 3 * less.mults.remove(i) as usize } else { 0 };
+    less.poles.truncate(less.poles.len().saturating_sub(poles));
+    if i < less.knots.len() {
+        less.knots.remove(i);
+    }
+    less
+}
+
+/// Smaller cases: a knot left out; fewer poles; a multiplicity 1 less; rounder numbers.
+fn smaller(case: &Case) -> Vec<Case> {
+    let length = case.knots.len().max(case.mults.len());
+    let mut cases: Vec<Case> = (0..length).map(|i| without(case, i)).collect();
+    for fewer in [3, 1] {
+        cases.push(Case { poles: case.poles[..case.poles.len().saturating_sub(fewer)].to_vec(), ..case.clone() });
+    }
+    for (i, &m) in case.mults.iter().enumerate().filter(|(_, m)| **m > 1) {
+        let mut less = Case { poles: case.poles[..case.poles.len().saturating_sub(3)].to_vec(), ..case.clone() };
+        less.mults[i] = m - 1;
+        cases.push(less);
+    }
+    for round in [f64::round as fn(f64) -> f64, |x| (x * 16.0).round() / 16.0] {
+        let all = |list: &[f64]| list.iter().map(|&x| round(x)).collect::<Vec<f64>>();
+        cases.push(Case { poles: vec![0.0; case.poles.len()], ..case.clone() });
+        cases.push(Case { poles: all(&case.poles), ..case.clone() });
+        cases.push(Case { knots: all(&case.knots), ..case.clone() });
+        cases.push(Case { u: round(case.u), ..case.clone() });
+    }
+    cases
+}
+
+/// How much there is of a case: its numbers, and the digits with which they are written.
+fn weight(case: &Case) -> (usize, usize) {
+    let digits = |list: &[f64]| list.iter().map(|x| format!("{x:?}").len()).sum::<usize>();
+    (case.knots.len() + case.poles.len() + case.mults.iter().map(|&m| m as usize).sum::<usize>(), digits(&case.poles) + digits(&case.knots) + digits(&[case.u]))
+}
+
+/// The smallest case found that still differs.
+fn smallest(mut case: Case) -> Case {
+    let lighter = |case: &Case| smaller(case).into_iter().find(|less| weight(less) < weight(case) && difference(less, reference(less)).is_some());
+    while let Some(less) = lighter(&case) {
+        case = less;
+    }
+    case
+}
+
+const ANSWERS: &str = "readings by answer (0: read)";
+const DEGREES: &str = "degrees of curves read";
+const POLES: &str = "poles of curves read";
+
+/// What a report shows, none of it met.
+pub fn expected() -> Tally {
+    Tally::default().expect(ANSWERS, [0, 2, 6, 7, 8, 12, 13, 14, 15]).expect(DEGREES, 1..=25).expect(POLES, 2..=1024)
+}
+
+/// Reads one curve at so many parameters, and counts; what differs from the Rust's, if anything does.
+pub fn some(random: &mut Random, times: u64, tally: &mut Tally) -> Option<String> {
+    let mut case = any(random);
+    for _ in 0..times {
+        let wanted = reference(&case);
+        tally.count(ANSWERS, &wanted.0.to_string(), 1);
+        if wanted.0 == 0 {
+            tally.count(DEGREES, &case.degree.to_string(), 1);
+            tally.count(POLES, &(case.poles.len() / 3).to_string(), 1);
+        }
+        if let Some(what) = difference(&case, wanted) {
+            let less = smallest(case.clone());
+            let still = difference(&less, reference(&less)).unwrap_or_default();
+            return Some(format!("different: {what} for {case:?}\nsmallest: {still} for {less:?}"));
+        }
+        if !case.knots.is_empty() {
+            case.u = parameter(random, &case.knots);
+        }
+    }
+    None
+}
+
+pub fn compare(count: u64, seed: u64) -> u64 {
+    tally::run("readings", count, seed, expected(), |random, most, tally| (most.min(4), some(random, most.min(4), tally)))
 }
 
 /// ns a reading of a validated curve, ours and the Rust's, and of one whose parts are checked at each reading.
