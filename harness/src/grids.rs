@@ -13,6 +13,8 @@ use crate::surfaces::fitting::pieces as grid_pieces;
 use crate::tally::{self, Tally};
 use std::hint::black_box;
 
+pub mod wrapped;
+
 const NAMES: [&str; 2] = ["approximate_grid", "approximate_grid_within"];
 const DIRECTIONS: [&str; 2] = ["u", "v"];
 const LINES: [&str; 2] = ["rows", "columns"];

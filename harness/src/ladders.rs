@@ -13,6 +13,7 @@ use std::collections::BTreeMap;
 use std::hint::black_box;
 
 pub mod cards;
+pub mod wrapped;
 
 const NAMES: [&str; 4] = ["interpolate", "approximate", "approximate_within", "search_spread"];
 pub const MARKS: [&str; 5] = ["", "refined", "spread", "interpolated", "chosen"];

@@ -20,6 +20,7 @@ mod grids;
 mod guarded;
 mod knots;
 mod ladders;
+mod nigorzai;
 mod ours;
 mod points;
 mod random;
@@ -42,6 +43,7 @@ fn main() {
         Some("card") => ladders::cards::compare(number(1, 20_000), number(2, 1)),
         Some("all") => all::compare(number(1, 100_000), number(2, 1), number(3, 1)),
         Some("try") => ladders::compare_stated() + grids::compare_stated(),
+        Some("wrapper") => ladders::wrapped::compare(2_000, 1) + grids::wrapped::compare(500, 1) + readings::compare_wrapped(5_000, 1),
         Some("list") if words.len() == 2 => ladders::list(&words[1]),
         Some("bench") => {
             roots::bench();
@@ -54,7 +56,7 @@ fn main() {
         }
         _ => {
             eprintln!("beside roots COUNT SEED | readings COUNT SEED | knots COUNT SEED | bands COUNT SEED | tables COUNT SEED");
-            eprintln!("     | ladders COUNT SEED | grids COUNT SEED | card COUNT SEED | all COUNT SEED THREADS | try | list FILE | bench");
+            eprintln!("     | ladders COUNT SEED | grids COUNT SEED | card COUNT SEED | all COUNT SEED THREADS | try | wrapper | list FILE | bench");
             std::process::exit(2)
         }
     };

@@ -2,6 +2,7 @@
 use crate::Point3D;
 use crate::curve_math::bspline::KnotVector;
 use crate::curves::BSplineConstructionError as Error;
+use crate::nigorzai;
 use crate::ours;
 use crate::random::{Random, all_same, least_seconds};
 use crate::tally::{self, Tally};
@@ -160,6 +161,32 @@ fn difference(case: &Case, (theirs, point): (u32, [f64; 3])) -> Option<String> {
     let ours = ours::read(&case.poles, case.degree, &case.knots, &case.mults, case.u, &mut out[..4]);
     let wanted = if theirs == 0 { [point[0], point[1], point[2], 7.0, 7.0] } else { [7.0; 5] };
     (ours != theirs || !all_same(&out, &wanted)).then(|| format!("{ours} with {out:?}, not {theirs} with {wanted:?}"))
+}
+
+/// What differs between the reading of nigorzai.rs, the guarded one and the Rust's, if anything does.
+pub fn unlike(poles: &[[f64; 3]], degree: usize, knots: &[f64], mults: &[u32], u: f64) -> Option<String> {
+    let case = Case { degree, knots: knots.to_vec(), mults: mults.to_vec(), poles: poles.concat(), u };
+    let (number, point) = reference(&case);
+    let right = match nigorzai::read(poles, degree, knots, mults, u) {
+        Ok(at) => number == 0 && all_same(&at, &point),
+        Err(refusal) => refusal == number,
+    };
+    (!right).then(|| format!("a reading that is not {number} with {point:?} for {case:?}")).or_else(|| difference(&case, (number, point)))
+}
+
+/// So many curves through the reading of nigorzai.rs.
+pub fn compare_wrapped(count: u64, seed: u64) -> u64 {
+    let (mut random, mut different) = (Random::new(seed), 0);
+    for _ in 0..count {
+        let case = any(&mut random);
+        let poles: Vec<[f64; 3]> = case.poles.chunks_exact(3).map(|q| [q[0], q[1], q[2]]).collect();
+        if let Some(what) = unlike(&poles, case.degree, &case.knots, &case.mults, case.u) {
+            different += 1;
+            println!("different: {what}");
+        }
+    }
+    println!("wrapper: {count} readings: {different} different");
+    different
 }
 
 /// The case with the knot of this number left out, and as many poles as its multiplicity asks.
