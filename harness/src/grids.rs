@@ -10,6 +10,7 @@ use crate::points;
 use crate::random::{Random, all_same};
 use crate::surfaces::BSplineSurface;
 use crate::surfaces::fitting::pieces as grid_pieces;
+use crate::stack::Most;
 use crate::tally::{self, Tally};
 use std::hint::black_box;
 
@@ -643,13 +644,19 @@ fn stated_once() -> Vec<Trial> {
     trials
 }
 
-/// Grids of which something is said: each answer is the Rust's, and what is said of it holds.
-pub fn compare_stated() -> u64 {
-    let (mut trials, mut different) = (stated_once(), 0);
+/// All that is said of single grids.
+fn trials() -> Vec<Trial> {
+    let mut trials = stated_once();
     for choose in [false, true] {
         (0..2).for_each(|spacing| trials.extend(stated(choose, spacing)));
         trials.extend(short(choose));
     }
+    trials
+}
+
+/// Grids of which something is said: each answer is the Rust's, and what is said of it holds.
+pub fn compare_stated() -> u64 {
+    let (trials, mut different) = (trials(), 0);
     for Trial { what, call, said } in &trials {
         let wanted = answer(call);
         let unlike = (!said(&wanted)).then(|| format!("the Rust's answer is {:?}", wanted.as_ref().err()));
@@ -675,18 +682,52 @@ fn timed(choose: bool, n: usize, noisy: bool) -> Call {
     Call { tolerance, spacing: 1, ..plain(places, [n, n], [3, 3], choose.then_some([n / 2, n / 2])) }
 }
 
+/// Slices as long as the call lends them.
+struct Owned {
+    doubles: [Vec<f64>; 7],
+    mults: [Vec<u32>; 2],
+    index: Vec<usize>,
+    counts: Vec<usize>,
+}
+
+impl Owned {
+    fn new(c: &Call) -> Owned {
+        let n = c.lengths();
+        let doubles = [0, 1, 2, 4, 5, 7, 9].map(|slice| vec![0.0; n[slice]]);
+        Owned { doubles, mults: [3, 6].map(|slice| vec![0; n[slice]]), index: vec![0; n[8]], counts: vec![0; n[10]] }
+    }
+
+    /// Our call with them.
+    fn run(&mut self, c: &Call) -> u32 {
+        let ([poles, u_flat, u_knots, v_flat, v_knots, work, largest], [u_mults, v_mults]) = (&mut self.doubles, &mut self.mults);
+        let (index, counts) = (&mut self.index, &mut self.counts);
+        let mut lent = GridLent { poles, u_flat, u_knots, u_mults, v_flat, v_knots, v_mults, work, index, largest, counts };
+        ours::grid(black_box(&c.places), c.size, c.degrees, c.chosen, c.tolerance, c.spacing, &mut lent)
+    }
+}
+
 /// The seconds of our call and of the Rust's.
 fn times(c: &Call) -> (f64, f64) {
-    let (n, lines) = (c.lengths(), c.lines());
-    let mut doubles = [0, 1, 2, 4, 5, 7, 9].map(|slice| vec![0.0; n[slice]]);
-    let (mut u_mults, mut v_mults, mut index, mut counts) = (vec![0; n[3]], vec![0; n[6]], vec![0; n[8]], vec![0; n[10]]);
-    let [poles, u_flat, u_knots, v_flat, v_knots, work, largest] = &mut doubles;
-    let mut lent = GridLent {
-        poles, u_flat, u_knots, u_mults: &mut u_mults, v_flat, v_knots, v_mults: &mut v_mults, work, index: &mut index, largest, counts: &mut counts,
-    };
-    let my = || { black_box(ours::grid(black_box(&c.places), c.size, c.degrees, c.chosen, c.tolerance, c.spacing, &mut lent)); };
+    let (mut owned, lines) = (Owned::new(c), c.lines());
     let their = || { let _ = black_box(published(black_box(c), &lines)); };
-    in_turn(my, their)
+    in_turn(|| { black_box(owned.run(c)); }, their)
+}
+
+/// The stack of the grids to try, of large ones with high degrees, and of others.
+pub fn stack(random: &mut Random, most: &mut Most) {
+    let mut calls: Vec<Call> = trials().into_iter().map(|trial| trial.call).collect();
+    for (choose, degree) in [true, false].into_iter().flat_map(|choose| [1, 3, 24, 25].map(|degree| (choose, degree))) {
+        for noisy in [false, true] {
+            let c = Call { degrees: [degree; 2], ..timed(choose, 64, noisy) };
+            calls.extend([1.0, 1e-2, 1e-5, f64::NAN].map(|tolerance| Call { tolerance, spacing: 0, ..c.clone() }));
+            calls.push(c);
+        }
+    }
+    calls.extend((0..2_000).map(|_| call(random)));
+    for c in &calls {
+        let mut owned = Owned::new(c);
+        most.measure(NAMES[c.entry()], || c.line(), &mut || { black_box(owned.run(c)); });
+    }
 }
 
 pub fn bench() {

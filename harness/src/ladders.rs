@@ -8,6 +8,7 @@ use crate::guarded::Guarded;
 use crate::ours::{self, APPROXIMATE, INTERPOLATE, Lent, SEARCH, WITHIN};
 use crate::points;
 use crate::random::{Random, all_same, least_seconds};
+use crate::stack::Most;
 use crate::tally::{self, Tally};
 use std::collections::BTreeMap;
 use std::hint::black_box;
@@ -781,19 +782,50 @@ pub fn in_turn(mut my: impl FnMut(), mut their: impl FnMut()) -> (f64, f64) {
     (mine, theirs)
 }
 
+/// Slices as long as the call lends them.
+struct Owned {
+    doubles: [Vec<f64>; 5],
+    mults: Vec<u32>,
+    index: Vec<usize>,
+    counts: Vec<usize>,
+}
+
+impl Owned {
+    fn new(c: &Call) -> Owned {
+        let n = c.lengths();
+        Owned { doubles: [0, 1, 2, 4, 6].map(|i| vec![0.0; n[i]]), mults: vec![0; n[3]], index: vec![0; n[5]], counts: vec![0; n[7]] }
+    }
+
+    /// Our call with them.
+    fn run(&mut self, c: &Call) -> u32 {
+        let [poles, flat, knots, work, largest] = &mut self.doubles;
+        let mut lent = Lent { poles, flat, knots, mults: &mut self.mults, work, index: &mut self.index, largest, counts: &mut self.counts };
+        ours::ladder(c.entry, black_box(&c.places), c.degree, c.count, c.tolerance, c.spacing, &mut lent)
+    }
+}
+
 /// The seconds of our call and of the Rust's.
 fn times(c: &Call) -> (f64, f64) {
-    let (n, points) = (c.lengths(), c.points());
-    let doubles = |i: usize| vec![0.0; n[i]];
-    let (mut poles, mut flat, mut knots, mut work, mut largest) = (doubles(0), doubles(1), doubles(2), doubles(4), doubles(6));
-    let (mut mults, mut index, mut counts) = (vec![0; n[3]], vec![0; n[5]], vec![0; n[7]]);
-    let mut lent = Lent {
-        poles: &mut poles, flat: &mut flat, knots: &mut knots, mults: &mut mults,
-        work: &mut work, index: &mut index, largest: &mut largest, counts: &mut counts,
-    };
-    let my = || { black_box(ours::ladder(c.entry, black_box(&c.places), c.degree, c.count, c.tolerance, c.spacing, &mut lent)); };
+    let (mut owned, points) = (Owned::new(c), c.points());
     let their = || { let _ = black_box(published(black_box(c), &points)); };
-    in_turn(my, their)
+    in_turn(|| { black_box(owned.run(c)); }, their)
+}
+
+/// The stack of the ladders to try, of long ones with high degrees, and of others.
+pub fn stack(random: &mut Random, most: &mut Most) {
+    let mut calls: Vec<Call> = trials().into_iter().map(|trial| trial.call).collect();
+    for (entry, degree) in (0..4).flat_map(|entry| [1, 3, 24, 25].map(|degree| (entry, degree))) {
+        for (n, noisy) in [(26, false), (26, true), (1024, false), (1024, true)] {
+            let c = timed(entry, n, degree, noisy);
+            calls.extend([1e-2, 1e-5, f64::NAN].map(|tolerance| Call { tolerance, spacing: 0, count: n / 2 + 13, ..c.clone() }));
+            calls.push(c);
+        }
+    }
+    calls.extend((0..4_000).map(|_| call(random)));
+    for c in &calls {
+        let mut owned = Owned::new(c);
+        most.measure(NAMES[c.entry], || c.line(), &mut || { black_box(owned.run(c)); });
+    }
 }
 
 pub fn bench() {

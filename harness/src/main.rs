@@ -26,6 +26,7 @@ mod points;
 mod random;
 mod readings;
 mod roots;
+mod stack;
 mod tables;
 mod tally;
 
@@ -45,6 +46,10 @@ fn main() {
         Some("try") => ladders::compare_stated() + grids::compare_stated(),
         Some("wrapper") => ladders::wrapped::compare(2_000, 1) + grids::wrapped::compare(500, 1) + readings::compare_wrapped(5_000, 1),
         Some("list") if words.len() == 2 => ladders::list(&words[1]),
+        Some("stack") => {
+            stack::bench();
+            0
+        }
         Some("bench") => {
             roots::bench();
             readings::bench();
@@ -56,7 +61,7 @@ fn main() {
         }
         _ => {
             eprintln!("beside roots COUNT SEED | readings COUNT SEED | knots COUNT SEED | bands COUNT SEED | tables COUNT SEED");
-            eprintln!("     | ladders COUNT SEED | grids COUNT SEED | card COUNT SEED | all COUNT SEED THREADS | try | wrapper | list FILE | bench");
+            eprintln!("     | ladders COUNT SEED | grids COUNT SEED | card COUNT SEED | all COUNT SEED THREADS | try | wrapper | list FILE | stack | bench");
             std::process::exit(2)
         }
     };

@@ -5,6 +5,7 @@ use crate::curves::BSplineConstructionError as Error;
 use crate::nigorzai;
 use crate::ours;
 use crate::random::{Random, all_same, least_seconds};
+use crate::stack::Most;
 use crate::tally::{self, Tally};
 use std::hint::black_box;
 
@@ -270,6 +271,15 @@ pub fn some(random: &mut Random, times: u64, tally: &mut Tally) -> Option<String
 
 pub fn compare(count: u64, seed: u64) -> u64 {
     tally::run("readings", count, seed, expected(), |random, most, tally| (most.min(4), some(random, most.min(4), tally)))
+}
+
+/// The stack of readings, degree 25 among them.
+pub fn stack(random: &mut Random, most: &mut Most) {
+    for _ in 0..20_000 {
+        let (case, mut out) = (any(random), [0.0; 3]);
+        let what = || format!("a curve of degree {}, {} knots and {} poles", case.degree, case.knots.len(), case.poles.len() / 3);
+        most.measure("read", what, &mut || { black_box(ours::read(&case.poles, case.degree, &case.knots, &case.mults, case.u, &mut out)); });
+    }
 }
 
 /// ns a reading of a validated curve, ours and the Rust's, and of one whose parts are checked at each reading.
