@@ -4,12 +4,13 @@ use crate::Point3D;
 use crate::curve_math::bspline::{KnotVector, distinct_knots};
 use crate::curves::fitting::pieces;
 use crate::guarded::Guarded;
-use crate::ladders::{MARKS, corner, degree, extra, fold, in_turn, number, pole_count};
+use crate::ladders::{MARKS, corner, degree, extra, fold, number, pole_count};
 use crate::ours::{self, GridLent};
 use crate::points;
 use crate::random::{Random, all_same};
 use crate::surfaces::BSplineSurface;
 use crate::surfaces::fitting::pieces as grid_pieces;
+use crate::bench::{Timed, in_turn};
 use crate::stack::Most;
 use crate::tally::{self, Tally};
 use std::hint::black_box;
@@ -706,11 +707,26 @@ impl Owned {
     }
 }
 
-/// The seconds of our call and of the Rust's.
-fn times(c: &Call) -> (f64, f64) {
+/// The Rust giving the same answer as our call, where its own call computes no deviation.
+fn measured(c: &Call, lines: &[Vec<Point3D>]) -> Option<grid_pieces::Measured> {
+    grid_pieces::approximate_measured(lines, c.degrees, c.chosen?, c.centripetal())
+}
+
+/// The seconds of our call, of the Rust's, and of the Rust giving the same answer.
+fn times(c: &Call, fit: &Fit) -> (f64, f64, Option<f64>) {
     let (mut owned, lines) = (Owned::new(c), c.lines());
-    let their = || { let _ = black_box(published(black_box(c), &lines)); };
-    in_turn(|| { black_box(owned.run(c)); }, their)
+    let mut mine = || { black_box(owned.run(c)); };
+    let mut theirs = || { let _ = black_box(published(black_box(c), &lines)); };
+    let Some(same) = measured(c, &lines) else {
+        let [mine, theirs] = in_turn([&mut mine, &mut theirs]);
+        return (mine, theirs, None);
+    };
+    let [u, v] = &fit.sides;
+    assert!(all_same(&same.flat[0], &u.flat) && all_same(&same.flat[1], &v.flat) && all_same(&ours::places(&same.poles), &fit.poles));
+    assert!(all_same(&same.largest, &[u.largest, v.largest]) && same.distinct[0].1 == u.mults && same.distinct[1].1 == v.mults);
+    let mut whole = || { let _ = black_box(measured(black_box(c), &lines)); };
+    let [mine, theirs, whole] = in_turn([&mut mine, &mut theirs, &mut whole]);
+    (mine, theirs, Some(whole))
 }
 
 /// The stack of the grids to try, of large ones with high degrees, and of others.
@@ -730,16 +746,19 @@ pub fn stack(random: &mut Random, most: &mut Most) {
     }
 }
 
-pub fn bench() {
-    for n in [33, 64] {
+pub fn bench() -> Vec<Timed> {
+    let mut all = vec![];
+    for n in [8, 16, 33, 64] {
         for (choose, noisy) in [(true, false), (true, true), (false, false), (false, true)] {
             let c = timed(choose, n, noisy);
-            let (mine, theirs) = times(&c);
-            let Ok(Fit { sides: [u, v], .. }) = answer(&c) else { panic!("a timed grid is refused") };
+            let Ok(fit) = answer(&c) else { panic!("a timed grid is refused") };
+            let (mine, theirs, same) = times(&c, &fit);
             let (name, kind) = (NAMES[c.entry()], if noisy { "noisy" } else { "smooth" });
-            let (u, v) = (format!("{} with {}", MARKS[u.mark], u.poles()), format!("{} with {}", MARKS[v.mark], v.poles()));
-            let what = format!("{name}, {kind}, {n} x {n}, degree 3, {u} and {v} poles");
-            println!("{what}, us: ours {:.2}, the Rust's {:.2}, ratio {:.2}", mine * 1e6, theirs * 1e6, mine / theirs);
+            let [u, v] = fit.sides.map(|side| format!("{} with {}", MARKS[side.mark], side.poles()));
+            let timed = Timed { what: format!("{name}, {kind}, {n} x {n}, degree 3, {u} and {v} poles"), mine, theirs, same };
+            timed.tell();
+            all.push(timed);
         }
     }
+    all
 }

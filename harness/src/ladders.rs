@@ -7,7 +7,8 @@ use crate::curves::{BSplineConstructionError as Error, BSplineCurve3D};
 use crate::guarded::Guarded;
 use crate::ours::{self, APPROXIMATE, INTERPOLATE, Lent, SEARCH, WITHIN};
 use crate::points;
-use crate::random::{Random, all_same, least_seconds};
+use crate::random::{Random, all_same};
+use crate::bench::{Timed, in_turn};
 use crate::stack::Most;
 use crate::tally::{self, Tally};
 use std::collections::BTreeMap;
@@ -771,17 +772,6 @@ fn timed(entry: usize, n: usize, degree: usize, noisy: bool) -> Call {
     Call { tolerance, spacing: 1, ..plain(entry, (0..n).flat_map(point).collect(), degree) }
 }
 
-/// The least seconds of ours and of the Rust's, run in turn.
-pub fn in_turn(mut my: impl FnMut(), mut their: impl FnMut()) -> (f64, f64) {
-    let rounds = (0.3 / least_seconds(2, &mut their)).clamp(8.0, 100.0) as usize;
-    let (mut mine, mut theirs) = (f64::INFINITY, f64::INFINITY);
-    for _ in 0..rounds {
-        theirs = theirs.min(least_seconds(3, &mut their));
-        mine = mine.min(least_seconds(3, &mut my));
-    }
-    (mine, theirs)
-}
-
 /// Slices as long as the call lends them.
 struct Owned {
     doubles: [Vec<f64>; 5],
@@ -804,11 +794,29 @@ impl Owned {
     }
 }
 
-/// The seconds of our call and of the Rust's.
-fn times(c: &Call) -> (f64, f64) {
+/// The Rust giving the same answer as our call, where its own call computes no deviation.
+fn measured(c: &Call, points: &[Point3D]) -> Option<pieces::Measured> {
+    match c.entry {
+        INTERPOLATE => pieces::interpolate_measured(points, c.degree, c.spacing != 0),
+        APPROXIMATE => pieces::approximate_measured(points, c.degree, c.count, c.spacing != 0),
+        _ => None,
+    }
+}
+
+/// The seconds of our call, of the Rust's, and of the Rust giving the same answer.
+fn times(c: &Call, fit: &Fit) -> (f64, f64, Option<f64>) {
     let (mut owned, points) = (Owned::new(c), c.points());
-    let their = || { let _ = black_box(published(black_box(c), &points)); };
-    in_turn(|| { black_box(owned.run(c)); }, their)
+    let mut mine = || { black_box(owned.run(c)); };
+    let mut theirs = || { let _ = black_box(published(black_box(c), &points)); };
+    let Some(same) = measured(c, &points) else {
+        let [mine, theirs] = in_turn([&mut mine, &mut theirs]);
+        return (mine, theirs, None);
+    };
+    let knots = all_same(&same.flat, &fit.flat) && all_same(&same.knots, &fit.knots) && same.mults == fit.mults;
+    assert!(knots && all_same(&ours::places(&same.poles), &fit.poles) && same.largest.to_bits() == fit.largest.to_bits() && same.unreadable == fit.unreadable);
+    let mut whole = || { let _ = black_box(measured(black_box(c), &points)); };
+    let [mine, theirs, whole] = in_turn([&mut mine, &mut theirs, &mut whole]);
+    (mine, theirs, Some(whole))
 }
 
 /// The stack of the ladders to try, of long ones with high degrees, and of others.
@@ -828,16 +836,29 @@ pub fn stack(random: &mut Random, most: &mut Most) {
     }
 }
 
-pub fn bench() {
-    for (n, degree) in [(64, 3), (64, 10), (256, 3), (256, 10), (1024, 3), (1024, 10)] {
-        for (entry, noisy) in [(INTERPOLATE, false), (INTERPOLATE, true), (WITHIN, false), (WITHIN, true)] {
-            let c = timed(entry, n, degree, noisy);
-            let (mine, theirs) = times(&c);
-            let answer = answer(&c);
-            let (name, kind, mark) = (NAMES[entry], if noisy { "noisy" } else { "smooth" }, class_name(class(&answer)));
-            let poles = answer.map_or(0, |fit| fit.poles.len() / 3);
-            let what = format!("{name}, {kind}, n {n}, degree {degree}, {mark} with {poles} poles");
-            println!("{what}, us: ours {:.2}, the Rust's {:.2}, ratio {:.2}", mine * 1e6, theirs * 1e6, mine / theirs);
-        }
+/// The calls whose times are taken, smooth or noisy.
+const TIMED: [(usize, bool); 6] = [(INTERPOLATE, false), (INTERPOLATE, true), (APPROXIMATE, false), (APPROXIMATE, true), (WITHIN, false), (WITHIN, true)];
+
+fn bench_one((entry, noisy): (usize, bool), n: usize, degree: usize) -> Timed {
+    let c = Call { count: (n / 2).max(degree + 1), ..timed(entry, n, degree, noisy) };
+    let fit = answer(&c).unwrap_or_else(|number| panic!("a timed ladder is refused with {number}"));
+    let (mine, theirs, same) = times(&c, &fit);
+    let (name, kind, mark) = (NAMES[entry], if noisy { "noisy" } else { "smooth" }, MARKS[fit.mark]);
+    let what = format!("{name}, {kind}, n {n}, degree {degree}, {mark} with {} poles", fit.poles.len() / 3);
+    Timed { what, mine, theirs, same }
+}
+
+/// Each call at growing sizes, with a line for how its time grows.
+pub fn bench() -> Vec<Timed> {
+    const SIZES: [usize; 5] = [16, 32, 64, 256, 1024];
+    let mut all = vec![];
+    for (timed, degree) in [3, 10].into_iter().flat_map(|degree| TIMED.map(|timed| (timed, degree))) {
+        let times: Vec<Timed> = SIZES.iter().map(|&n| bench_one(timed, n, degree)).collect();
+        times.iter().for_each(Timed::tell);
+        let per_point = |seconds: fn(&Timed) -> f64| times.iter().zip(SIZES).map(|(t, n)| format!("{:.0}", seconds(t) / n as f64 * 1e9)).collect::<Vec<_>>().join(", ");
+        let (name, kind) = (NAMES[timed.0], if timed.1 { "noisy" } else { "smooth" });
+        println!("{name}, {kind}, degree {degree}, ns a point at n {SIZES:?}: ours {}; the Rust's {}", per_point(|t| t.mine), per_point(|t| t.theirs));
+        all.extend(times);
     }
+    all
 }

@@ -16,6 +16,7 @@ pub use vector::{Vector2D, Vector3D};
 
 mod all;
 mod bands;
+mod bench;
 mod grids;
 mod guarded;
 mod knots;
@@ -50,18 +51,10 @@ fn main() {
             stack::bench();
             0
         }
-        Some("bench") => {
-            roots::bench();
-            readings::bench();
-            bands::bench();
-            tables::bench();
-            ladders::bench();
-            grids::bench();
-            0
-        }
+        Some("bench") if bench::run(words.get(1).map(String::as_str)) => 0,
         _ => {
             eprintln!("beside roots COUNT SEED | readings COUNT SEED | knots COUNT SEED | bands COUNT SEED | tables COUNT SEED");
-            eprintln!("     | ladders COUNT SEED | grids COUNT SEED | card COUNT SEED | all COUNT SEED THREADS | try | wrapper | list FILE | stack | bench");
+            eprintln!("     | ladders COUNT SEED | grids COUNT SEED | card COUNT SEED | all COUNT SEED THREADS | try | wrapper | list FILE | stack | bench [roots | readings | bands | tables | ladders | grids]");
             std::process::exit(2)
         }
     };

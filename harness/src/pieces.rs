@@ -101,6 +101,46 @@ pub fn passes(points: &[Point3D], params: &[f64], degree: usize, count: usize, t
     poles.is_some() && deviations.iter().all(|&d| d <= tolerance)
 }
 
+/// What our calls hand out of a curve: its parts, the largest distance of a point from it, and how many distances are NaN.
+pub struct Measured {
+    pub flat: Vec<f64>,
+    pub knots: Vec<f64>,
+    pub mults: Vec<u32>,
+    pub poles: Vec<Point3D>,
+    pub largest: f64,
+    pub unreadable: usize,
+}
+
+/// The distances on the table that the fit was made on, so that nothing is computed twice.
+fn measured(points: &[Point3D], basis: &BasisTable, flat: Vec<f64>, poles: Vec<Point3D>) -> Measured {
+    let (knots, mults) = super::compress_knots(&flat);
+    let (mut largest, mut unreadable) = (0.0f64, 0);
+    for (k, &point) in points.iter().enumerate() {
+        let distance = basis.point(k, &poles).distance(point);
+        largest = largest.max(distance);
+        unreadable += distance.is_nan() as usize;
+    }
+    Measured { flat, knots, mults, poles, largest, unreadable }
+}
+
+/// `interpolate`, measured.
+pub fn interpolate_measured(points: &[Point3D], degree: usize, centripetal: bool) -> Option<Measured> {
+    let params = point_parameters(points, centripetal)?;
+    let flat = averaged_knots(&params, degree);
+    let basis = BasisTable::new(&flat, degree, &params);
+    let poles = interpolation(&basis, 1, |_, k| points[k]);
+    Some(measured(points, &basis, flat, poles))
+}
+
+/// `approximate`, measured.
+pub fn approximate_measured(points: &[Point3D], degree: usize, count: usize, centripetal: bool) -> Option<Measured> {
+    let params = point_parameters(points, centripetal)?;
+    let flat = approximation_knots(&params, count, degree);
+    let basis = BasisTable::new(&flat, degree, &params);
+    let poles = least_squares(&basis, count, 1, |_, k| points[k])?;
+    Some(measured(points, &basis, flat, poles))
+}
+
 /// Each point's distance from the fit read at the point's own parameter.
 pub fn deviations(points: &[Point3D], params: &[f64], degree: usize, (flat, poles): &Parts) -> Vec<f64> {
     let basis = BasisTable::new(flat, degree, params);
