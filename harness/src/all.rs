@@ -12,7 +12,7 @@ use std::time::{Duration, Instant};
 /// The calls of a whole chunk.
 const CHUNK: u64 = 20_000;
 
-/// Of each 20 calls the first 15 are ladder calls and the next 2 grid calls; the last 3 read one curve.
+/// Of each 20 calls the first 15 are ladder calls and the next 2 grid calls; the last 3 are readings.
 const ROUND: u64 = 20;
 const LADDERS: u64 = 15;
 const GRIDS_END: u64 = 17;
@@ -28,13 +28,13 @@ fn chunk(seed: u64, number: u64, calls: u64) -> Chunk {
     let (mut random, mut tally, mut done) = (Random::of_part(seed, number), Tally::default(), 0);
     let mut different = None;
     while done < calls && different.is_none() {
-        let (place, left) = (done % ROUND, calls - done);
-        let reads = (ROUND - GRIDS_END).min(left);
-        (done, different) = match place {
-            0..LADDERS => (done + 1, ladders::one(&mut random, &mut tally)),
-            LADDERS..GRIDS_END => (done + 1, grids::one(&mut random, &mut tally)),
-            _ => (done + reads, readings::some(&mut random, reads, &mut tally)),
+        let place = done % ROUND;
+        let made = match place {
+            0..LADDERS => (1, ladders::one(&mut random, &mut tally)),
+            LADDERS..GRIDS_END => (1, grids::one(&mut random, &mut tally)),
+            _ => readings::some(&mut random, (ROUND - place).min(calls - done), &mut tally),
         };
+        (done, different) = (done + made.0, made.1);
     }
     Chunk { tally, different: different.map(|text| format!("chunk {number}, seed {seed}\n{text}")) }
 }

@@ -481,6 +481,7 @@ fn skips(c: &Call, d: usize) -> bool {
 const CALLS: &str = "grid calls";
 const REFUSALS: &str = "grid refusals";
 const PAIRS: &str = "grid marks of u and v";
+const ALONG: [&str; 2] = ["grid marks along u", "grid marks along v"];
 const CORNERS: [&str; 2] = ["grid corners along u", "grid corners along v"];
 const SIZES: [&str; 2] = ["grid rows", "grid columns"];
 const DEGREES: [&str; 2] = ["degrees of grid fits along u", "degrees of grid fits along v"];
@@ -495,7 +496,8 @@ pub fn expected() -> Tally {
     let tally = Tally::default().expect(CALLS, NAMES.into_iter().chain([SHORT])).expect(PAIRS, pairs.map(|(u, v)| pair(u, v)));
     let mut tally = tally.expect(REFUSALS, refusals.map(|(number, of)| Refusal { number, of }.name()));
     for d in 0..2 {
-        tally = tally.expect(CORNERS[d], RARE.iter().map(|(name, _)| *name).chain([SKIPPED])).expect(SIZES[d], 0..=66).expect(DEGREES[d], 1..=25);
+        let corners = RARE.iter().map(|(name, _)| *name).chain([SKIPPED]);
+        tally = tally.expect(ALONG[d], &MARKS[1..]).expect(CORNERS[d], corners).expect(SIZES[d], 0..=66).expect(DEGREES[d], 1..=25);
     }
     tally
 }
@@ -519,6 +521,7 @@ fn count(tally: &mut Tally, c: &Call, answer: &Answer) {
 fn count_fit(tally: &mut Tally, c: &Call, fit: &Fit) {
     tally.count(PAIRS, &pair(fit.sides[0].mark, fit.sides[1].mark), 1);
     for (d, side) in fit.sides.iter().enumerate() {
+        tally.count(ALONG[d], MARKS[side.mark], 1);
         tally.count(DEGREES[d], &side.degree.to_string(), 1);
         tally.count(CORNERS[d], SKIPPED, skips(c, d) as u64);
         RARE.iter().for_each(|(name, stands)| tally.count(CORNERS[d], name, stands(side) as u64));

@@ -54,7 +54,8 @@ fn main() {
         Some("bench") if bench::run(words.get(1).map(String::as_str)) => 0,
         _ => {
             eprintln!("beside roots COUNT SEED | readings COUNT SEED | knots COUNT SEED | bands COUNT SEED | tables COUNT SEED");
-            eprintln!("     | ladders COUNT SEED | grids COUNT SEED | card COUNT SEED | all COUNT SEED THREADS | try | wrapper | list FILE | stack | bench [roots | readings | bands | tables | ladders | grids]");
+            eprintln!("     | ladders COUNT SEED | grids COUNT SEED | card COUNT SEED | all COUNT SEED THREADS | try | wrapper | list FILE | stack");
+            eprintln!("     | bench [roots | readings | bands | tables | ladders | grids]");
             std::process::exit(2)
         }
     };

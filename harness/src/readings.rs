@@ -226,7 +226,8 @@ fn smaller(case: &Case) -> Vec<Case> {
 /// How much there is of a case: its numbers, and the digits with which they are written.
 fn weight(case: &Case) -> (usize, usize) {
     let digits = |list: &[f64]| list.iter().map(|x| format!("{x:?}").len()).sum::<usize>();
-    (case.knots.len() + case.poles.len() + case.mults.iter().map(|&m| m as usize).sum::<usize>(), digits(&case.poles) + digits(&case.knots) + digits(&[case.u]))
+    let numbers = case.knots.len() + case.poles.len() + case.mults.iter().map(|&m| m as usize).sum::<usize>();
+    (numbers, digits(&case.poles) + digits(&case.knots) + digits(&[case.u]))
 }
 
 /// The smallest case found that still differs.
@@ -242,35 +243,55 @@ const ANSWERS: &str = "readings by answer (0: read)";
 const DEGREES: &str = "degrees of curves read";
 const POLES: &str = "poles of curves read";
 
+/// The rare corners: whether a reading that gives this point stands in each.
+const RARE: [(&str, fn(&Case, &[f64; 3]) -> bool); 7] = [
+    ("the parameter before the first knot", |case, _| case.u < case.knots[0]),
+    ("the parameter behind the last knot", |case, _| case.u > case.knots[case.knots.len() - 1]),
+    ("the parameter on a knot", |case, _| case.knots.contains(&case.u)),
+    ("the parameter -0.0 on the first knot 0.0", |case, _| case.u == 0.0 && case.u.is_sign_negative() && case.knots[0].to_bits() == 0),
+    ("the parameter infinite", |case, _| case.u.is_infinite()),
+    ("ends not clamped", |case, _| case.mults[0] as usize <= case.degree || case.mults[case.mults.len() - 1] as usize <= case.degree),
+    ("a point not finite", |_, point| point.iter().any(|x| !x.is_finite())),
+];
+
+const CORNERS: &str = "reading corners";
+
 /// What a report shows, none of it met.
 pub fn expected() -> Tally {
-    Tally::default().expect(ANSWERS, [0, 2, 6, 7, 8, 12, 13, 14, 15]).expect(DEGREES, 1..=25).expect(POLES, 2..=1024)
+    let tally = Tally::default().expect(ANSWERS, [0, 2, 6, 7, 8, 12, 13, 14, 15]).expect(DEGREES, 1..=25).expect(POLES, 2..=1024);
+    tally.expect(CORNERS, RARE.map(|(name, _)| name))
 }
 
-/// Reads one curve at so many parameters, and counts; what differs from the Rust's, if anything does.
-pub fn some(random: &mut Random, times: u64, tally: &mut Tally) -> Option<String> {
+fn count(tally: &mut Tally, case: &Case, (number, point): (u32, [f64; 3])) {
+    tally.count(ANSWERS, &number.to_string(), 1);
+    if number == 0 {
+        tally.count(DEGREES, &case.degree.to_string(), 1);
+        tally.count(POLES, &(case.poles.len() / 3).to_string(), 1);
+        RARE.iter().for_each(|(name, stands)| tally.count(CORNERS, name, stands(case, &point) as u64));
+    }
+}
+
+/// Reads one curve at so many parameters, or once where it has none, and counts; how many readings it was, and what differs from the Rust's, if anything does.
+pub fn some(random: &mut Random, most: u64, tally: &mut Tally) -> (u64, Option<String>) {
     let mut case = any(random);
-    for _ in 0..times {
+    let times = if case.knots.len() > 1 { most } else { 1 };
+    for done in 1..=times {
         let wanted = reference(&case);
-        tally.count(ANSWERS, &wanted.0.to_string(), 1);
-        if wanted.0 == 0 {
-            tally.count(DEGREES, &case.degree.to_string(), 1);
-            tally.count(POLES, &(case.poles.len() / 3).to_string(), 1);
-        }
+        count(tally, &case, wanted);
         if let Some(what) = difference(&case, wanted) {
             let less = smallest(case.clone());
             let still = difference(&less, reference(&less)).unwrap_or_default();
-            return Some(format!("different: {what} for {case:?}\nsmallest: {still} for {less:?}"));
+            return (done, Some(format!("different: {what} for {case:?}\nsmallest: {still} for {less:?}")));
         }
         if !case.knots.is_empty() {
             case.u = parameter(random, &case.knots);
         }
     }
-    None
+    (times, None)
 }
 
 pub fn compare(count: u64, seed: u64) -> u64 {
-    tally::run("readings", count, seed, expected(), |random, most, tally| (most.min(4), some(random, most.min(4), tally)))
+    tally::run("readings", count, seed, expected(), |random, most, tally| some(random, most.min(4), tally))
 }
 
 /// The stack of readings, degree 25 among them.

@@ -55,10 +55,10 @@ impl Tally {
                 println!("{group}: {met} of {} met, the rarest, {}, {} times", names.len(), rarest.0, rarest.1);
                 continue;
             }
-            println!("{group}: {}", names.iter().map(|(name, n)| format!("{name} {n}")).collect::<Vec<_>>().join(", "));
+            println!("{group}: {}", names.iter().map(|(name, n)| format!("{name} {n}")).collect::<Vec<_>>().join("; "));
             missing.extend(names.iter().filter(|(_, n)| *n == 0).map(|(name, _)| format!("{name} ({group})")));
         }
-        println!("met by no call: {}", if missing.is_empty() { "nothing".into() } else { missing.join(", ") });
+        println!("met by no call: {}", if missing.is_empty() { "nothing".into() } else { missing.join("; ") });
     }
 }
 
