@@ -302,7 +302,7 @@ fn without(c: &Call, d: usize, drop: usize, first: bool, poles: usize) -> Call {
 }
 
 /// The call with fewer rows and columns from either end, and as many fewer poles or not, while it still differs.
-fn smallest(mut c: Call) -> Call {
+fn fewer_lines(mut c: Call) -> Call {
     let whole = c.size.iter().all(|n| *n <= 64) && c.places.len() == 3 * c.size[0] * c.size[1];
     let mut drop = if whole { c.size[0].max(c.size[1]) / 2 } else { 0 };
     while drop > 0 {
@@ -316,9 +316,34 @@ fn smallest(mut c: Call) -> Call {
     c
 }
 
+/// Smaller calls: slices as long as needed, a lower degree, a coordinate 0 throughout, rounder numbers.
+fn smaller(c: &Call) -> Vec<Call> {
+    let mut calls = vec![Call { extra: [0; 11], ..c.clone() }, Call { spacing: c.spacing.min(1), ..c.clone() }, Call { spacing: 0, ..c.clone() }];
+    for d in 0..2 {
+        let mut lower = c.clone();
+        lower.degrees[d] = lower.degrees[d].saturating_sub(1);
+        calls.push(lower);
+    }
+    for i in 0..3 {
+        let places = c.places.iter().enumerate().map(|(k, &x)| if k % 3 == i { 0.0 } else { x }).collect();
+        calls.push(Call { places, ..c.clone() });
+    }
+    calls.extend(tally::rounder(&c.places).map(|places| Call { places, ..c.clone() }));
+    calls.extend(tally::rounder(&[c.tolerance]).map(|tolerance| Call { tolerance: tolerance[0], ..c.clone() }));
+    calls
+}
+
+/// How much there is of a call: numbers beside the places, digits.
+fn weight(c: &Call) -> (u64, usize) {
+    let beside = c.extra.iter().map(|e| e.unsigned_abs()).sum::<u64>().saturating_add(c.spacing as u64);
+    let beside = c.degrees.iter().fold(beside, |sum, &p| sum.saturating_add(p as u64));
+    (beside, tally::digits(&c.places) + tally::digits(&[c.tolerance]))
+}
+
 /// A call that differs, and with its points the smallest found that does.
 fn told(c: &Call, what: &str) -> String {
-    let less = smallest(c.clone());
+    let differs = |less: &Call| difference(less, &answer(less)).is_some();
+    let less = tally::smallest(fewer_lines(c.clone()), smaller, weight, differs);
     let still = difference(&less, &answer(&less)).unwrap_or_default();
     format!("different: {what}\n{}\nsmallest: {still}\n{}\n{}", c.line(), less.line(), less.words())
 }

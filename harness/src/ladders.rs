@@ -283,7 +283,7 @@ fn difference(c: &Call, wanted: &Answer) -> Option<String> {
 }
 
 /// The call with fewer points from either end, and as many fewer poles or not, while it still differs.
-fn smallest(mut c: Call) -> Call {
+fn halved(mut c: Call) -> Call {
     let mut drop = c.places.len() / 6;
     while drop > 0 {
         let end = c.places.len() - (3 * drop).min(c.places.len());
@@ -301,9 +301,36 @@ fn smallest(mut c: Call) -> Call {
     c
 }
 
+/// Smaller calls: slices as long as needed, what is not used left out, a point less, a lower degree, a coordinate 0 throughout, rounder numbers.
+fn smaller(c: &Call) -> Vec<Call> {
+    let (n, unused) = (c.places.len() / 3, (c.entry != APPROXIMATE, c.entry < WITHIN));
+    let mut calls = vec![Call { extra: [0; 8], ..c.clone() }, Call { spacing: c.spacing.min(1), ..c.clone() }, Call { spacing: 0, ..c.clone() }];
+    calls.push(Call { count: if unused.0 { 0 } else { c.count }, tolerance: if unused.1 { 0.0 } else { c.tolerance }, ..c.clone() });
+    calls.push(Call { degree: c.degree.saturating_sub(1), ..c.clone() });
+    for (k, fewer) in (0..n).flat_map(|k| [(k, 0), (k, 1)]) {
+        let places = [&c.places[..3 * k], &c.places[3 * k + 3..]].concat();
+        calls.push(Call { places, count: c.count.saturating_sub(fewer), ..c.clone() });
+    }
+    for i in 0..3 {
+        let places = c.places.iter().enumerate().map(|(k, &x)| if k % 3 == i { 0.0 } else { x }).collect();
+        calls.push(Call { places, ..c.clone() });
+    }
+    calls.extend(tally::rounder(&c.places).map(|places| Call { places, ..c.clone() }));
+    calls.extend(tally::rounder(&[c.tolerance]).map(|tolerance| Call { tolerance: tolerance[0], ..c.clone() }));
+    calls
+}
+
+/// How much there is of a call: places, numbers beside them, digits.
+fn weight(c: &Call) -> (usize, u64, usize) {
+    let beside = c.extra.iter().map(|e| e.unsigned_abs()).sum::<u64>().saturating_add(c.spacing as u64);
+    let beside = beside.saturating_add(c.degree as u64).saturating_add(if c.entry == APPROXIMATE { 0 } else { c.count as u64 });
+    (c.places.len(), beside, tally::digits(&c.places) + tally::digits(&[c.tolerance]))
+}
+
 /// A call that differs, and with its points the smallest found that does.
 fn told(c: &Call, what: &str) -> String {
-    let less = smallest(c.clone());
+    let differs = |less: &Call| difference(less, &answer(less)).is_some();
+    let less = tally::smallest(halved(c.clone()), smaller, weight, differs);
     let still = difference(&less, &answer(&less)).unwrap_or_default();
     format!("different: {what}\n{}\nsmallest: {still}\n{}\n{}", c.line(), less.line(), less.words())
 }

@@ -213,30 +213,22 @@ fn smaller(case: &Case) -> Vec<Case> {
         less.mults[i] = m - 1;
         cases.push(less);
     }
-    for round in [f64::round as fn(f64) -> f64, |x| (x * 16.0).round() / 16.0] {
-        let all = |list: &[f64]| list.iter().map(|&x| round(x)).collect::<Vec<f64>>();
-        cases.push(Case { poles: vec![0.0; case.poles.len()], ..case.clone() });
-        cases.push(Case { poles: all(&case.poles), ..case.clone() });
-        cases.push(Case { knots: all(&case.knots), ..case.clone() });
-        cases.push(Case { u: round(case.u), ..case.clone() });
-    }
+    cases.push(Case { poles: vec![0.0; case.poles.len()], ..case.clone() });
+    cases.extend(tally::rounder(&case.poles).map(|poles| Case { poles, ..case.clone() }));
+    cases.extend(tally::rounder(&case.knots).map(|knots| Case { knots, ..case.clone() }));
+    cases.extend(tally::rounder(&[case.u]).map(|u| Case { u: u[0], ..case.clone() }));
     cases
 }
 
 /// How much there is of a case: its numbers, and the digits with which they are written.
 fn weight(case: &Case) -> (usize, usize) {
-    let digits = |list: &[f64]| list.iter().map(|x| format!("{x:?}").len()).sum::<usize>();
     let numbers = case.knots.len() + case.poles.len() + case.mults.iter().map(|&m| m as usize).sum::<usize>();
-    (numbers, digits(&case.poles) + digits(&case.knots) + digits(&[case.u]))
+    (numbers, tally::digits(&case.poles) + tally::digits(&case.knots) + tally::digits(&[case.u]))
 }
 
 /// The smallest case found that still differs.
-fn smallest(mut case: Case) -> Case {
-    let lighter = |case: &Case| smaller(case).into_iter().find(|less| weight(less) < weight(case) && difference(less, reference(less)).is_some());
-    while let Some(less) = lighter(&case) {
-        case = less;
-    }
-    case
+fn smallest(case: Case) -> Case {
+    tally::smallest(case, smaller, weight, |less| difference(less, reference(less)).is_some())
 }
 
 const ANSWERS: &str = "readings by answer (0: read)";

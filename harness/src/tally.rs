@@ -80,3 +80,24 @@ pub fn run(what: &str, count: u64, seed: u64, mut tally: Tally, some: impl Fn(&m
     println!("{} different", different.is_some() as u64);
     different.is_some() as u64
 }
+
+/// The smallest case found for which something still holds: the first of the smaller ones that weighs less, over and over.
+pub fn smallest<T, W: PartialOrd>(mut case: T, smaller: impl Fn(&T) -> Vec<T>, weight: impl Fn(&T) -> W, holds: impl Fn(&T) -> bool) -> T {
+    while let Some(less) = smaller(&case).into_iter().find(|less| weight(less) < weight(&case) && holds(less)) {
+        case = less;
+    }
+    case
+}
+
+/// The numbers rounded to whole ones, to sixteenths, and to three digits.
+pub fn rounder(list: &[f64]) -> [Vec<f64>; 3] {
+    let digits = |x: f64| format!("{x:.2e}").parse::<f64>().unwrap_or(x);
+    let rounds: [fn(f64) -> f64; 2] = [f64::round, |x| (x * 16.0).round() / 16.0];
+    let [whole, sixteenths] = rounds.map(|round| list.iter().map(|&x| round(x)).collect());
+    [whole, sixteenths, list.iter().map(|&x| digits(x)).collect()]
+}
+
+/// How many digits the numbers are written with.
+pub fn digits(list: &[f64]) -> usize {
+    list.iter().map(|x| format!("{x:?}").len()).sum()
+}
