@@ -4,6 +4,7 @@
 //!
 //! `interpolate` and the like allocate what they need; the functions `lent_...` take slices of the caller's and allocate nothing. A refusal is its number in
 //! include/nigorzai.h.
+#![allow(dead_code)]
 
 /// The functions as include/nigorzai.h has them.
 pub mod c {
