@@ -1,5 +1,6 @@
 //! A child of the published surfaces/fitting.rs: its private functions, under names that the comparison calls.
 use super::*;
+use crate::curve_math::bspline::distinct_knots;
 use crate::curves::fitting::{fit_with_refined_knots, pieces};
 
 fn grid(points: &[Vec<Point3D>]) -> Grid<'_> {
@@ -150,6 +151,30 @@ fn measured_columns(grid: &Grid, degree: usize, found: Found, rows: &Rows) -> Si
     grid.deviations((&basis, rows.basis), &found.poles, rows.columns, &mut deviations);
     check_folds(&distances, &deviations);
     side(found, distances, &grid.u_params, degree)
+}
+
+/// What our call hands out of a surface but for the counts of unreadable distances, which the Rust has no function for: u's knots, v's, and poles.
+pub struct Measured {
+    pub flat: [Vec<f64>; 2],
+    pub distinct: [(Vec<f64>, Vec<u32>); 2],
+    pub poles: Vec<Point3D>,
+    pub largest: [f64; 2],
+}
+
+/// `approximate`, and then the distances by its own functions, on the tables that the fit was made on.
+pub fn approximate_measured(points: &[Vec<Point3D>], [p, q]: [usize; 2], [m, n]: [usize; 2], centripetal: bool) -> Option<Measured> {
+    let grid = Grid::new(points, pieces::spacing(centripetal)).ok()?;
+    let v_flat = approximation_knots(&grid.v_params, n, q);
+    let v_basis = BasisTable::new(&v_flat, q, &grid.v_params);
+    let u_flat = approximation_knots(&grid.u_params, m, p);
+    let u_basis = BasisTable::new(&u_flat, p, &grid.u_params);
+    let row_poles = grid.fit_rows(&v_basis, n)?;
+    let poles = grid.fit_columns(&u_basis, m, &row_poles, n)?;
+    let (mut along_u, mut along_v) = (vec![0.0; grid.rows], vec![0.0; grid.cols]);
+    grid.row_deviations(&v_basis, &row_poles, n, &mut along_v);
+    grid.deviations((&u_basis, &v_basis), &poles, n, &mut along_u);
+    let largest = [along_u, along_v].map(|list| list.iter().fold(0.0f64, |a, &d| a.max(d)));
+    Some(Measured { distinct: [distinct_knots(&u_flat), distinct_knots(&v_flat)], flat: [u_flat, v_flat], poles, largest })
 }
 
 /// The direction in which least squares gave none.

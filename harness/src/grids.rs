@@ -4,15 +4,18 @@ use crate::Point3D;
 use crate::curve_math::bspline::{KnotVector, distinct_knots};
 use crate::curves::fitting::pieces;
 use crate::guarded::Guarded;
-use crate::ladders::{MARKS, corner, degree, extra, fold, in_turn, number, pole_count};
+use crate::ladders::{MARKS, corner, degree, extra, fold, number, pole_count};
 use crate::ours::{self, GridLent};
 use crate::points;
 use crate::random::{Random, all_same};
 use crate::surfaces::BSplineSurface;
 use crate::surfaces::fitting::pieces as grid_pieces;
-use std::collections::BTreeMap;
+use crate::bench::{Timed, in_turn};
+use crate::stack::Most;
+use crate::tally::{self, Tally};
 use std::hint::black_box;
-use std::time::{Duration, Instant};
+
+pub mod wrapped;
 
 const NAMES: [&str; 2] = ["approximate_grid", "approximate_grid_within"];
 const DIRECTIONS: [&str; 2] = ["u", "v"];
@@ -123,20 +126,20 @@ impl Side {
         KnotVector::new(self.degree, self.knots.clone(), self.mults.clone(), false, self.poles()).is_err()
     }
 
-    /// The rare corners, and whether it stands in each.
-    fn corners(&self) -> [(&'static str, bool); 8] {
-        [
-            ("spread below a refinement that fits", self.fewer),
-            ("unreadable deviations", self.unreadable > 0),
-            ("unreadable deviations, not interpolated", self.unreadable > 0 && self.mark != 3),
-            ("largest infinite", self.largest.is_infinite()),
-            ("inner knots repeat", self.repeats()),
-            ("distinct knots do not rise", self.falls()),
-            ("the reader refuses the knots", self.unread()),
-            ("a value stands outside the band", self.drops),
-        ]
-    }
 }
+
+/// The rare corners: whether a direction of a fit stands in each.
+const RARE: [(&str, fn(&Side) -> bool); 9] = [
+    ("spread below a refinement that fits", |side| side.fewer),
+    ("unreadable deviations", |side| side.unreadable > 0),
+    ("unreadable deviations, not interpolated", |side| side.unreadable > 0 && side.mark != 3),
+    ("unreadable deviations, largest 0", |side| side.unreadable > 0 && side.largest == 0.0),
+    ("largest infinite", |side| side.largest.is_infinite()),
+    ("inner knots repeat", Side::repeats),
+    ("distinct knots do not rise", Side::falls),
+    ("the reader refuses the knots", Side::unread),
+    ("a value outside the band", |side| side.drops),
+];
 
 #[derive(Default)]
 struct Fit {
@@ -152,8 +155,13 @@ struct Refusal {
 }
 
 const LENGTH: &str = "the length";
+const COORDINATE: &str = "a coordinate";
 
 impl Refusal {
+    fn name(self) -> String {
+        format!("{} for {}", self.number, self.of)
+    }
+
     /// Whether it comes after the checks up to 10, so that work and index are cleared.
     fn cleared(self) -> bool {
         [3, 4, 5].contains(&self.number) || self.number == 6 && self.of != LENGTH
@@ -182,7 +190,7 @@ fn early(c: &Call) -> Result<(), Refusal> {
     for slice in 0..11 {
         stop_if(lent[slice] < needed[slice], 9, SLICES[slice])?;
     }
-    stop_if(c.places.iter().any(|x| !x.is_finite() || x.abs() > 1_000_000.0), 10, "a coordinate")
+    stop_if(c.places.iter().any(|x| !x.is_finite() || x.abs() > 1_000_000.0), 10, COORDINATE)
 }
 
 /// Document 01's checks from 5 on, up to the steps.
@@ -294,7 +302,7 @@ fn without(c: &Call, d: usize, drop: usize, first: bool, poles: usize) -> Call {
 }
 
 /// The call with fewer rows and columns from either end, and as many fewer poles or not, while it still differs.
-fn smallest(mut c: Call) -> Call {
+fn fewer_lines(mut c: Call) -> Call {
     let whole = c.size.iter().all(|n| *n <= 64) && c.places.len() == 3 * c.size[0] * c.size[1];
     let mut drop = if whole { c.size[0].max(c.size[1]) / 2 } else { 0 };
     while drop > 0 {
@@ -308,11 +316,36 @@ fn smallest(mut c: Call) -> Call {
     c
 }
 
-/// Prints a call that differs, and with its points the smallest found that does.
-fn tell(c: &Call, what: &str) {
-    println!("different: {what}\n{}", c.line());
-    let less = smallest(c.clone());
-    println!("smallest: {}\n{}\n{}", difference(&less, &answer(&less)).unwrap_or_default(), less.line(), less.words());
+/// Smaller calls: slices as long as needed, a lower degree, a coordinate 0 throughout, rounder numbers.
+fn smaller(c: &Call) -> Vec<Call> {
+    let mut calls = vec![Call { extra: [0; 11], ..c.clone() }, Call { spacing: c.spacing.min(1), ..c.clone() }, Call { spacing: 0, ..c.clone() }];
+    for d in 0..2 {
+        let mut lower = c.clone();
+        lower.degrees[d] = lower.degrees[d].saturating_sub(1);
+        calls.push(lower);
+    }
+    for i in 0..3 {
+        let places = c.places.iter().enumerate().map(|(k, &x)| if k % 3 == i { 0.0 } else { x }).collect();
+        calls.push(Call { places, ..c.clone() });
+    }
+    calls.extend(tally::rounder(&c.places).map(|places| Call { places, ..c.clone() }));
+    calls.extend(tally::rounder(&[c.tolerance]).map(|tolerance| Call { tolerance: tolerance[0], ..c.clone() }));
+    calls
+}
+
+/// How much there is of a call: numbers beside the places, digits.
+fn weight(c: &Call) -> (u64, usize) {
+    let beside = c.extra.iter().map(|e| e.unsigned_abs()).sum::<u64>().saturating_add(c.spacing as u64);
+    let beside = c.degrees.iter().fold(beside, |sum, &p| sum.saturating_add(p as u64));
+    (beside, tally::digits(&c.places) + tally::digits(&[c.tolerance]))
+}
+
+/// A call that differs, and with its points the smallest found that does.
+fn told(c: &Call, what: &str) -> String {
+    let differs = |less: &Call| difference(less, &answer(less)).is_some();
+    let less = tally::smallest(fewer_lines(c.clone()), smaller, weight, differs);
+    let still = difference(&less, &answer(&less)).unwrap_or_default();
+    format!("different: {what}\n{}\nsmallest: {still}\n{}\n{}", c.line(), less.line(), less.words())
 }
 
 /// How many rows and columns: mostly few.
@@ -470,89 +503,66 @@ fn skips(c: &Call, d: usize) -> bool {
     (0..c.size[1 - d]).any(|r| length(r) <= crate::tol::CONFUSION)
 }
 
-/// What the calls of a run were like.
-#[derive(Default)]
-struct Tally {
-    calls: [u64; 2],
-    marks: BTreeMap<(usize, usize), u64>,
-    refusals: BTreeMap<Refusal, u64>,
-    corners: BTreeMap<&'static str, [u64; 2]>,
-    short: u64,
+const CALLS: &str = "grid calls";
+const REFUSALS: &str = "grid refusals";
+const PAIRS: &str = "grid marks of u and v";
+const ALONG: [&str; 2] = ["grid marks along u", "grid marks along v"];
+const CORNERS: [&str; 2] = ["grid corners along u", "grid corners along v"];
+const SIZES: [&str; 2] = ["grid rows", "grid columns"];
+const DEGREES: [&str; 2] = ["degrees of grid fits along u", "degrees of grid fits along v"];
+const SHORT: &str = "grid calls with a slice too short";
+const SKIPPED: &str = "a line is skipped";
+
+/// What a report shows, none of it met.
+pub fn expected() -> Tally {
+    let both = [(8, LINES), (2, DIRECTIONS), (1, LINES), (5, DIRECTIONS), (3, DIRECTIONS), (4, DIRECTIONS), (6, LINES)];
+    let refusals = both.iter().flat_map(|&(number, of)| of.map(|of| (number, of))).chain([(6, LENGTH), (10, COORDINATE)]).chain(SLICES.map(|of| (9, of)));
+    let pairs = (1..4).flat_map(|u| (1..4).map(move |v| (u, v))).chain([(4, 4)]);
+    let tally = Tally::default().expect(CALLS, NAMES.into_iter().chain([SHORT])).expect(PAIRS, pairs.map(|(u, v)| pair(u, v)));
+    let mut tally = tally.expect(REFUSALS, refusals.map(|(number, of)| Refusal { number, of }.name()));
+    for d in 0..2 {
+        let corners = RARE.iter().map(|(name, _)| *name).chain([SKIPPED]);
+        tally = tally.expect(ALONG[d], &MARKS[1..]).expect(CORNERS[d], corners).expect(SIZES[d], 0..=66).expect(DEGREES[d], 1..=25);
+    }
+    tally
 }
 
-impl Tally {
-    fn add(&mut self, c: &Call, answer: &Answer) {
-        self.calls[c.entry()] += 1;
-        self.short += c.extra.iter().any(|&e| e < 0) as u64;
-        match answer {
-            Err(refusal) => *self.refusals.entry(*refusal).or_default() += 1,
-            Ok(fit) => self.add_fit(c, fit),
-        }
-    }
+fn pair(u: usize, v: usize) -> String {
+    format!("{} and {}", MARKS[u], MARKS[v])
+}
 
-    fn add_fit(&mut self, c: &Call, fit: &Fit) {
-        *self.marks.entry((fit.sides[0].mark, fit.sides[1].mark)).or_default() += 1;
-        for (d, side) in fit.sides.iter().enumerate() {
-            for (name, stands) in side.corners().into_iter().chain([("a line is skipped", skips(c, d))]) {
-                self.corners.entry(name).or_default()[d] += stands as u64;
-            }
-        }
+fn count(tally: &mut Tally, c: &Call, answer: &Answer) {
+    tally.count(CALLS, NAMES[c.entry()], 1);
+    tally.count(CALLS, SHORT, c.extra.iter().any(|&e| e < 0) as u64);
+    for d in 0..2 {
+        tally.count(SIZES[d], &if c.size[d] <= 66 { c.size[d].to_string() } else { "over 66".into() }, 1);
     }
+    match answer {
+        Err(refusal) => tally.count(REFUSALS, &refusal.name(), 1),
+        Ok(fit) => count_fit(tally, c, fit),
+    }
+}
 
-    /// Marks and refusals of which there was none.
-    fn missing(&self) -> Vec<String> {
-        let marks = (1..5).flat_map(|m| [(m, 0), (m, 1)]).filter(|&(m, d)| !self.marks.keys().any(|&(u, v)| [u, v][d] == m));
-        let marks = marks.map(|(m, d)| format!("{} along {}", MARKS[m], DIRECTIONS[d]));
-        let both = [(8, LINES), (2, DIRECTIONS), (1, LINES), (5, DIRECTIONS), (3, DIRECTIONS), (4, DIRECTIONS), (6, LINES)];
-        let mut wanted: Vec<(u32, &str)> = both.iter().flat_map(|&(number, of)| of.map(|of| (number, of))).collect();
-        wanted.extend([(6, LENGTH), (10, "a coordinate")]);
-        wanted.extend(SLICES.map(|of| (9, of)));
-        let refusals = wanted.into_iter().filter(|&(number, of)| !self.refusals.contains_key(&Refusal { number, of }));
-        marks.chain(refusals.map(|(number, of)| format!("{number} for {of}"))).collect()
+fn count_fit(tally: &mut Tally, c: &Call, fit: &Fit) {
+    tally.count(PAIRS, &pair(fit.sides[0].mark, fit.sides[1].mark), 1);
+    for (d, side) in fit.sides.iter().enumerate() {
+        tally.count(ALONG[d], MARKS[side.mark], 1);
+        tally.count(DEGREES[d], &side.degree.to_string(), 1);
+        tally.count(CORNERS[d], SKIPPED, skips(c, d) as u64);
+        RARE.iter().for_each(|(name, stands)| tally.count(CORNERS[d], name, stands(side) as u64));
     }
+}
 
-    fn report(&self, seed: u64, different: u64) {
-        let calls: Vec<String> = NAMES.iter().zip(self.calls).map(|(name, n)| format!("{name} {n}")).collect();
-        println!("grids: {} calls, seed {seed}: {}", self.calls.iter().sum::<u64>(), calls.join(", "));
-        let along = |d: usize, m: usize| self.marks.iter().filter(|((u, v), _)| [*u, *v][d] == m).map(|(_, n)| n).sum::<u64>();
-        for (d, name) in DIRECTIONS.iter().enumerate() {
-            let marks: Vec<String> = (1..5).map(|m| format!("{} {}", MARKS[m], along(d, m))).collect();
-            println!("marks along {name}: {}", marks.join(", "));
-        }
-        let pairs: Vec<String> = self.marks.iter().map(|(&(u, v), n)| format!("{} and {} {n}", MARKS[u], MARKS[v])).collect();
-        println!("marks of u and v: {}", pairs.join(", "));
-        let refusals: Vec<String> = self.refusals.iter().map(|(Refusal { number, of }, n)| format!("{number} for {of} {n}")).collect();
-        println!("refusals: {}", refusals.join(", "));
-        println!("slices too short {}", self.short);
-        for (name, [u, v]) in &self.corners {
-            println!("{name}: along u {u}, along v {v}");
-        }
-        let missing = self.missing();
-        println!("met by no call: {}", if missing.is_empty() { "nothing".into() } else { missing.join(", ") });
-        println!("{different} different");
-    }
+/// Makes and counts a call; what differs from the Rust's, if anything does.
+pub fn one(random: &mut Random, tally: &mut Tally) -> Option<String> {
+    let c = call(random);
+    let wanted = answer(&c);
+    count(tally, &c, &wanted);
+    difference(&c, &wanted).map(|what| told(&c, &what))
 }
 
 pub fn compare(count: u64, seed: u64) -> u64 {
-    let mut random = Random::new(seed);
-    let mut tally = Tally::default();
-    let mut told = Instant::now();
-    for done in 0..count {
-        if told.elapsed() > Duration::from_secs(10) {
-            eprintln!("{done} of {count} calls");
-            told = Instant::now();
-        }
-        let c = call(&mut random);
-        let wanted = answer(&c);
-        tally.add(&c, &wanted);
-        if let Some(what) = difference(&c, &wanted) {
-            tell(&c, &what);
-            tally.report(seed, 1);
-            return 1;
-        }
-    }
-    tally.report(seed, 0);
-    0
+    tally::run("grids", count, seed, expected(), |random, _, tally| (1, one(random, tally)))
 }
 
 /// A call with something that is said of its answer.
@@ -663,13 +673,19 @@ fn stated_once() -> Vec<Trial> {
     trials
 }
 
-/// Grids of which something is said: each answer is the Rust's, and what is said of it holds.
-pub fn compare_stated() -> u64 {
-    let (mut trials, mut different) = (stated_once(), 0);
+/// All that is said of single grids.
+fn trials() -> Vec<Trial> {
+    let mut trials = stated_once();
     for choose in [false, true] {
         (0..2).for_each(|spacing| trials.extend(stated(choose, spacing)));
         trials.extend(short(choose));
     }
+    trials
+}
+
+/// Grids of which something is said: each answer is the Rust's, and what is said of it holds.
+pub fn compare_stated() -> u64 {
+    let (trials, mut different) = (trials(), 0);
     for Trial { what, call, said } in &trials {
         let wanted = answer(call);
         let unlike = (!said(&wanted)).then(|| format!("the Rust's answer is {:?}", wanted.as_ref().err()));
@@ -695,30 +711,82 @@ fn timed(choose: bool, n: usize, noisy: bool) -> Call {
     Call { tolerance, spacing: 1, ..plain(places, [n, n], [3, 3], choose.then_some([n / 2, n / 2])) }
 }
 
-/// The seconds of our call and of the Rust's.
-fn times(c: &Call) -> (f64, f64) {
-    let (n, lines) = (c.lengths(), c.lines());
-    let mut doubles = [0, 1, 2, 4, 5, 7, 9].map(|slice| vec![0.0; n[slice]]);
-    let (mut u_mults, mut v_mults, mut index, mut counts) = (vec![0; n[3]], vec![0; n[6]], vec![0; n[8]], vec![0; n[10]]);
-    let [poles, u_flat, u_knots, v_flat, v_knots, work, largest] = &mut doubles;
-    let mut lent = GridLent {
-        poles, u_flat, u_knots, u_mults: &mut u_mults, v_flat, v_knots, v_mults: &mut v_mults, work, index: &mut index, largest, counts: &mut counts,
-    };
-    let my = || { black_box(ours::grid(black_box(&c.places), c.size, c.degrees, c.chosen, c.tolerance, c.spacing, &mut lent)); };
-    let their = || { let _ = black_box(published(black_box(c), &lines)); };
-    in_turn(my, their)
+/// Slices as long as the call lends them.
+struct Owned {
+    doubles: [Vec<f64>; 7],
+    mults: [Vec<u32>; 2],
+    index: Vec<usize>,
+    counts: Vec<usize>,
 }
 
-pub fn bench() {
-    for n in [33, 64] {
-        for (choose, noisy) in [(true, false), (true, true), (false, false), (false, true)] {
-            let c = timed(choose, n, noisy);
-            let (mine, theirs) = times(&c);
-            let Ok(Fit { sides: [u, v], .. }) = answer(&c) else { panic!("a timed grid is refused") };
-            let (name, kind) = (NAMES[c.entry()], if noisy { "noisy" } else { "smooth" });
-            let (u, v) = (format!("{} with {}", MARKS[u.mark], u.poles()), format!("{} with {}", MARKS[v.mark], v.poles()));
-            let what = format!("{name}, {kind}, {n} x {n}, degree 3, {u} and {v} poles");
-            println!("{what}, us: ours {:.2}, the Rust's {:.2}, ratio {:.2}", mine * 1e6, theirs * 1e6, mine / theirs);
+impl Owned {
+    fn new(c: &Call) -> Owned {
+        let n = c.lengths();
+        let doubles = [0, 1, 2, 4, 5, 7, 9].map(|slice| vec![0.0; n[slice]]);
+        Owned { doubles, mults: [3, 6].map(|slice| vec![0; n[slice]]), index: vec![0; n[8]], counts: vec![0; n[10]] }
+    }
+
+    /// Our call with them.
+    fn run(&mut self, c: &Call) -> u32 {
+        let ([poles, u_flat, u_knots, v_flat, v_knots, work, largest], [u_mults, v_mults]) = (&mut self.doubles, &mut self.mults);
+        let (index, counts) = (&mut self.index, &mut self.counts);
+        let mut lent = GridLent { poles, u_flat, u_knots, u_mults, v_flat, v_knots, v_mults, work, index, largest, counts };
+        ours::grid(black_box(&c.places), c.size, c.degrees, c.chosen, c.tolerance, c.spacing, &mut lent)
+    }
+}
+
+/// The Rust giving the same answer as our call, where its own call computes no deviation.
+fn measured(c: &Call, lines: &[Vec<Point3D>]) -> Option<grid_pieces::Measured> {
+    grid_pieces::approximate_measured(lines, c.degrees, c.chosen?, c.centripetal())
+}
+
+/// The seconds of our call, of the Rust's, and of the Rust giving the same answer.
+fn times(c: &Call, fit: &Fit) -> (f64, f64, Option<f64>) {
+    let (mut owned, lines) = (Owned::new(c), c.lines());
+    let mut mine = || { black_box(owned.run(c)); };
+    let mut theirs = || { let _ = black_box(published(black_box(c), &lines)); };
+    let Some(same) = measured(c, &lines) else {
+        let [mine, theirs] = in_turn([&mut mine, &mut theirs]);
+        return (mine, theirs, None);
+    };
+    let [u, v] = &fit.sides;
+    assert!(all_same(&same.flat[0], &u.flat) && all_same(&same.flat[1], &v.flat) && all_same(&ours::places(&same.poles), &fit.poles));
+    assert!(all_same(&same.largest, &[u.largest, v.largest]) && same.distinct[0].1 == u.mults && same.distinct[1].1 == v.mults);
+    let mut whole = || { let _ = black_box(measured(black_box(c), &lines)); };
+    let [mine, theirs, whole] = in_turn([&mut mine, &mut theirs, &mut whole]);
+    (mine, theirs, Some(whole))
+}
+
+/// The stack of the grids to try, of large ones with high degrees, and of others.
+pub fn stack(random: &mut Random, most: &mut Most) {
+    let mut calls: Vec<Call> = trials().into_iter().map(|trial| trial.call).collect();
+    for (choose, degree) in [true, false].into_iter().flat_map(|choose| [1, 3, 24, 25].map(|degree| (choose, degree))) {
+        for noisy in [false, true] {
+            let c = Call { degrees: [degree; 2], ..timed(choose, 64, noisy) };
+            calls.extend([1.0, 1e-2, 1e-5, f64::NAN].map(|tolerance| Call { tolerance, spacing: 0, ..c.clone() }));
+            calls.push(c);
         }
     }
+    calls.extend((0..2_000).map(|_| call(random)));
+    for c in &calls {
+        let mut owned = Owned::new(c);
+        most.measure(NAMES[c.entry()], || c.line(), &mut || { black_box(owned.run(c)); });
+    }
+}
+
+pub fn bench() -> Vec<Timed> {
+    let mut all = vec![];
+    for n in [8, 16, 33, 64] {
+        for (choose, noisy) in [(true, false), (true, true), (false, false), (false, true)] {
+            let c = timed(choose, n, noisy);
+            let Ok(fit) = answer(&c) else { panic!("a timed grid is refused") };
+            let (mine, theirs, same) = times(&c, &fit);
+            let (name, kind) = (NAMES[c.entry()], if noisy { "noisy" } else { "smooth" });
+            let [u, v] = fit.sides.map(|side| format!("{} with {}", MARKS[side.mark], side.poles()));
+            let timed = Timed { what: format!("{name}, {kind}, {n} x {n}, degree 3, {u} and {v} poles"), mine, theirs, same };
+            timed.tell();
+            all.push(timed);
+        }
+    }
+    all
 }

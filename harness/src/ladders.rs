@@ -7,12 +7,15 @@ use crate::curves::{BSplineConstructionError as Error, BSplineCurve3D};
 use crate::guarded::Guarded;
 use crate::ours::{self, APPROXIMATE, INTERPOLATE, Lent, SEARCH, WITHIN};
 use crate::points;
-use crate::random::{Random, all_same, least_seconds};
+use crate::random::{Random, all_same};
+use crate::bench::{Timed, in_turn};
+use crate::stack::Most;
+use crate::tally::{self, Tally};
 use std::collections::BTreeMap;
 use std::hint::black_box;
-use std::time::{Duration, Instant};
 
 pub mod cards;
+pub mod wrapped;
 
 const NAMES: [&str; 4] = ["interpolate", "approximate", "approximate_within", "search_spread"];
 pub const MARKS: [&str; 5] = ["", "refined", "spread", "interpolated", "chosen"];
@@ -61,7 +64,8 @@ impl Call {
     }
 }
 
-/// A fit with its mark's number, 1 to 4, what is measured of it, and whether it interpolates and leaves out a value outside its band.
+/// A fit with its mark's number, 1 to 4, what is measured of it, whether it interpolates and leaves out a value outside its band, whether a lone first
+/// parameter asked for its neighbours on the way, and whether the search passed over a count that fits.
 #[derive(Default)]
 struct Fit {
     mark: usize,
@@ -72,6 +76,8 @@ struct Fit {
     knots: Vec<f64>,
     mults: Vec<u32>,
     drops: bool,
+    lone: bool,
+    passed_over: bool,
 }
 
 impl Fit {
@@ -91,11 +97,40 @@ impl Fit {
         !self.knots.windows(2).all(|w| w[0] < w[1])
     }
 
+    /// Whether a distinct knot is listed twice.
+    fn relists(&self) -> bool {
+        self.falls() && self.knots.iter().enumerate().any(|(i, knot)| self.knots[..i].contains(knot))
+    }
+
     /// Whether the reader's Rust refuses the knots.
     fn unread(&self) -> bool {
         KnotVector::new(self.degree(), self.knots.clone(), self.mults.clone(), false, self.poles.len() / 3).is_err()
     }
+
+    /// Whether it was spread or its count chosen.
+    fn even(&self) -> bool {
+        [2, 4].contains(&self.mark)
+    }
 }
+
+/// The rare corners: whether a fit of so many points stands in each.
+const RARE: [(&str, fn(&Fit, usize) -> bool); 15] = [
+    ("unreadable deviations", |fit, _| fit.unreadable > 0),
+    ("all unreadable, largest 0", |fit, n| fit.unreadable == n && fit.largest == 0.0),
+    ("largest infinite", |fit, _| fit.largest.is_infinite()),
+    ("averaged knots repeat", |fit, _| fit.mark == 3 && fit.repeats()),
+    ("averaged knots fall", |fit, _| fit.mark == 3 && fit.falls()),
+    ("averaged knots that the reader refuses", |fit, _| fit.mark == 3 && fit.unread()),
+    ("refined knots that the reader refuses", |fit, _| fit.mark == 1 && fit.unread()),
+    ("spread or chosen knots repeat", |fit, _| fit.even() && fit.repeats()),
+    ("spread or chosen knots that the reader refuses", |fit, _| fit.even() && fit.unread()),
+    ("a knot listed again", |fit, _| fit.relists()),
+    ("a value outside the band", |fit, _| fit.drops),
+    ("a pole not finite", |fit, _| fit.poles.iter().any(|x| !x.is_finite())),
+    ("a pole at -0.0", |fit, _| fit.poles.iter().any(|x| *x == 0.0 && x.is_sign_negative())),
+    ("a lone first parameter asks for its neighbours", |fit, _| fit.lone),
+    ("the search passes over a count that fits (seen up to 16 points)", |fit, _| fit.passed_over),
+];
 
 /// A fit, or the number of a refusal.
 type Answer = Result<Fit, u32>;
@@ -154,9 +189,9 @@ fn published(c: &Call, points: &[Point3D]) -> Result<BSplineCurve3D, u32> {
     curve.map_err(number)
 }
 
-/// The steps of the call in their order: the mark of the first that gives a fit, with its flat knots and poles.
-fn stepped(c: &Call, points: &[Point3D], params: &[f64]) -> Option<(usize, pieces::Parts)> {
-    let refined = || pieces::refined(points, params, c.degree, c.tolerance).map(|fit| (1, fit));
+/// The steps of the call in their order: the mark of the first that gives a fit, with its flat knots and poles. `lone` is told as by `pieces::refined`.
+fn stepped(c: &Call, points: &[Point3D], params: &[f64], lone: &mut bool) -> Option<(usize, pieces::Parts)> {
+    let mut refined = || pieces::refined(points, params, c.degree, c.tolerance, lone).map(|fit| (1, fit));
     let spread = || pieces::spread(points, params, c.degree, c.tolerance).map(|fit| (2, fit));
     let interpolated = || Some((3, pieces::interpolated(points, params, c.degree)));
     match c.entry {
@@ -165,6 +200,12 @@ fn stepped(c: &Call, points: &[Point3D], params: &[f64]) -> Option<(usize, piece
         WITHIN => refined().or_else(spread).or_else(interpolated),
         _ => spread().or_else(interpolated),
     }
+}
+
+/// Whether a smaller count than the spread search found, or any where it found none, is within the tolerance too.
+fn passed_over(c: &Call, points: &[Point3D], params: &[f64], (mark, count): (usize, usize)) -> bool {
+    let searched = c.entry >= WITHIN && mark != 1 && points.len() <= 16;
+    searched && (c.degree + 1..count).any(|count| pieces::passes(points, params, c.degree, count, c.tolerance))
 }
 
 /// Folded from 0, NaN passed over.
@@ -184,19 +225,21 @@ fn answer(c: &Call) -> Answer {
         return Err(refusal);
     }
     let params = pieces::point_parameters(&points, c.spacing != 0).ok_or(5u32);
+    let mut lone = false;
     let fit = params.and_then(|params| {
-        let (mark, parts) = stepped(c, &points, &params).ok_or(6u32)?;
+        let (mark, parts) = stepped(c, &points, &params, &mut lone).ok_or(6u32)?;
         let drops = mark == 3 && pieces::drops_values(&params, c.degree, &parts.0);
-        Ok((mark, drops, pieces::deviations(&points, &params, c.degree, &parts), parts))
+        let passed_over = passed_over(c, &points, &params, (mark, parts.1.len()));
+        Ok((mark, drops, passed_over, pieces::deviations(&points, &params, c.degree, &parts), parts))
     });
-    let (mark, drops, deviations, (flat, poles)) = match (fit, &theirs) {
+    let (mark, drops, passed_over, deviations, (flat, poles)) = match (fit, &theirs) {
         (Ok(fit), Ok(_)) => fit,
         (Err(a), Err(b)) if a == *b => return Err(a),
         _ => panic!("the steps differ from the published call"),
     };
     let (knots, mults) = pieces::compress_knots(&flat);
     let unreadable = deviations.iter().filter(|d| d.is_nan()).count();
-    let fit = Fit { mark, largest: fold(&deviations), unreadable, poles: ours::places(&poles), flat, knots, mults, drops };
+    let fit = Fit { mark, largest: fold(&deviations), unreadable, poles: ours::places(&poles), flat, knots, mults, drops, lone, passed_over };
     let chosen = || published(&Call { entry: APPROXIMATE, count: poles.len(), ..c.clone() }, &points);
     let curve = if c.entry == SEARCH && mark == 2 { chosen() } else { theirs };
     assert!(curve.is_ok_and(|curve| agree(&fit, &curve)), "the steps differ from the published call");
@@ -240,7 +283,7 @@ fn difference(c: &Call, wanted: &Answer) -> Option<String> {
 }
 
 /// The call with fewer points from either end, and as many fewer poles or not, while it still differs.
-fn smallest(mut c: Call) -> Call {
+fn halved(mut c: Call) -> Call {
     let mut drop = c.places.len() / 6;
     while drop > 0 {
         let end = c.places.len() - (3 * drop).min(c.places.len());
@@ -258,11 +301,38 @@ fn smallest(mut c: Call) -> Call {
     c
 }
 
-/// Prints a call that differs, and with its points the smallest found that does.
-fn tell(c: &Call, what: &str) {
-    println!("different: {what}\n{}", c.line());
-    let less = smallest(c.clone());
-    println!("smallest: {}\n{}\n{}", difference(&less, &answer(&less)).unwrap_or_default(), less.line(), less.words());
+/// Smaller calls: slices as long as needed, what is not used left out, a point less, a lower degree, a coordinate 0 throughout, rounder numbers.
+fn smaller(c: &Call) -> Vec<Call> {
+    let (n, unused) = (c.places.len() / 3, (c.entry != APPROXIMATE, c.entry < WITHIN));
+    let mut calls = vec![Call { extra: [0; 8], ..c.clone() }, Call { spacing: c.spacing.min(1), ..c.clone() }, Call { spacing: 0, ..c.clone() }];
+    calls.push(Call { count: if unused.0 { 0 } else { c.count }, tolerance: if unused.1 { 0.0 } else { c.tolerance }, ..c.clone() });
+    calls.push(Call { degree: c.degree.saturating_sub(1), ..c.clone() });
+    for (k, fewer) in (0..n).flat_map(|k| [(k, 0), (k, 1)]) {
+        let places = [&c.places[..3 * k], &c.places[3 * k + 3..]].concat();
+        calls.push(Call { places, count: c.count.saturating_sub(fewer), ..c.clone() });
+    }
+    for i in 0..3 {
+        let places = c.places.iter().enumerate().map(|(k, &x)| if k % 3 == i { 0.0 } else { x }).collect();
+        calls.push(Call { places, ..c.clone() });
+    }
+    calls.extend(tally::rounder(&c.places).map(|places| Call { places, ..c.clone() }));
+    calls.extend(tally::rounder(&[c.tolerance]).map(|tolerance| Call { tolerance: tolerance[0], ..c.clone() }));
+    calls
+}
+
+/// How much there is of a call: places, numbers beside them, digits.
+fn weight(c: &Call) -> (usize, u64, usize) {
+    let beside = c.extra.iter().map(|e| e.unsigned_abs()).sum::<u64>().saturating_add(c.spacing as u64);
+    let beside = beside.saturating_add(c.degree as u64).saturating_add(if c.entry == APPROXIMATE { 0 } else { c.count as u64 });
+    (c.places.len(), beside, tally::digits(&c.places) + tally::digits(&[c.tolerance]))
+}
+
+/// A call that differs, and with its points the smallest found that does.
+fn told(c: &Call, what: &str) -> String {
+    let differs = |less: &Call| difference(less, &answer(less)).is_some();
+    let less = tally::smallest(halved(c.clone()), smaller, weight, differs);
+    let still = difference(&less, &answer(&less)).unwrap_or_default();
+    format!("different: {what}\n{}\nsmallest: {still}\n{}\n{}", c.line(), less.line(), less.words())
 }
 
 /// How many points: mostly few.
@@ -348,7 +418,7 @@ fn occurring(random: &mut Random, points: &[Point3D], degree: usize, centripetal
         pieces::chosen(points, &params, degree, random.from_to(degree + 1, n))?
     } else {
         let length = points[0].distance(points[n / 2]);
-        pieces::refined(points, &params, degree, length * 10f64.powi(-(random.below(9) as i32)))?
+        pieces::refined(points, &params, degree, length * 10f64.powi(-(random.below(9) as i32)), &mut false)?
     };
     let deviations = pieces::deviations(points, &params, degree, &fit);
     let (one, largest) = (*random.of(&deviations), fold(&deviations));
@@ -419,20 +489,6 @@ fn call(random: &mut Random) -> Call {
     c
 }
 
-/// What the calls of a run were like.
-#[derive(Default)]
-struct Tally {
-    calls: [u64; 4],
-    answers: BTreeMap<usize, u64>,
-    unreadable: u64,
-    infinite: u64,
-    short: u64,
-    repeating: u64,
-    falling: u64,
-    unread: u64,
-    drops: u64,
-}
-
 /// The refusal's number, or 100 and the mark's.
 fn class(answer: &Answer) -> usize {
     answer.as_ref().map_or_else(|&number| number as usize, |fit| 100 + fit.mark)
@@ -442,52 +498,42 @@ fn class_name(class: usize) -> String {
     if class < 100 { class.to_string() } else { MARKS[class - 100].into() }
 }
 
-impl Tally {
-    fn add(&mut self, c: &Call, answer: &Answer) {
-        self.calls[c.entry] += 1;
-        *self.answers.entry(class(answer)).or_default() += 1;
-        self.short += c.extra.iter().any(|&e| e < 0) as u64;
-        let Ok(fit) = answer else { return };
-        self.unreadable += (fit.unreadable > 0) as u64;
-        self.infinite += fit.largest.is_infinite() as u64;
-        self.repeating += fit.repeats() as u64;
-        self.falling += fit.falls() as u64;
-        self.unread += fit.unread() as u64;
-        self.drops += fit.drops as u64;
-    }
+const CALLS: &str = "ladder calls";
+const ANSWERS: &str = "ladder marks and refusals";
+const CORNERS: &str = "ladder corners";
+const POINTS: &str = "ladder points";
+const DEGREES: &str = "degrees of ladder fits";
+const SHORT: &str = "a slice too short";
 
-    fn report(&self, seed: u64, different: u64) {
-        let calls: Vec<String> = NAMES.iter().zip(self.calls).map(|(name, n)| format!("{name} {n}")).collect();
-        let answers: Vec<String> = self.answers.iter().map(|(&class, n)| format!("{} {n}", class_name(class))).collect();
-        println!("ladders: {} calls, seed {seed}: {}", self.calls.iter().sum::<u64>(), calls.join(", "));
-        println!("by mark or refusal: {}", answers.join(", "));
-        println!("with unreadable deviations {}, infinite largest {}, slices too short {}", self.unreadable, self.infinite, self.short);
-        println!("inner knots repeat {}, distinct knots do not rise {}, the reader refuses the knots {}", self.repeating, self.falling, self.unread);
-        println!("a value stands outside the band {}", self.drops);
-        println!("{different} different");
-    }
+/// What a report shows, none of it met.
+pub fn expected() -> Tally {
+    let refusals = (1..=10).map(class_name).chain((101..105).map(class_name));
+    let corners = RARE.iter().map(|(name, _)| *name).chain([SHORT]);
+    let tally = Tally::default().expect(CALLS, NAMES).expect(ANSWERS, refusals).expect(CORNERS, corners);
+    tally.expect(POINTS, 0..=1026).expect(DEGREES, 1..=25)
+}
+
+fn count(tally: &mut Tally, c: &Call, answer: &Answer) {
+    let n = c.places.len() / 3;
+    tally.count(CALLS, NAMES[c.entry], 1);
+    tally.count(ANSWERS, &class_name(class(answer)), 1);
+    tally.count(POINTS, &n.to_string(), 1);
+    tally.count(CORNERS, SHORT, c.extra.iter().any(|&e| e < 0) as u64);
+    let Ok(fit) = answer else { return };
+    tally.count(DEGREES, &c.degree.to_string(), 1);
+    RARE.iter().for_each(|(name, stands)| tally.count(CORNERS, name, stands(fit, n) as u64));
+}
+
+/// Makes and counts a call; what differs from the Rust's, if anything does.
+pub fn one(random: &mut Random, tally: &mut Tally) -> Option<String> {
+    let c = call(random);
+    let wanted = answer(&c);
+    count(tally, &c, &wanted);
+    difference(&c, &wanted).map(|what| told(&c, &what))
 }
 
 pub fn compare(count: u64, seed: u64) -> u64 {
-    let mut random = Random::new(seed);
-    let mut tally = Tally::default();
-    let mut told = Instant::now();
-    for done in 0..count {
-        if told.elapsed() > Duration::from_secs(10) {
-            eprintln!("{done} of {count} calls");
-            told = Instant::now();
-        }
-        let c = call(&mut random);
-        let wanted = answer(&c);
-        tally.add(&c, &wanted);
-        if let Some(what) = difference(&c, &wanted) {
-            tell(&c, &what);
-            tally.report(seed, 1);
-            return 1;
-        }
-    }
-    tally.report(seed, 0);
-    0
+    tally::run("ladders", count, seed, expected(), |random, _, tally| (1, one(random, tally)))
 }
 
 /// A call with something that is said of its answer.
@@ -753,42 +799,93 @@ fn timed(entry: usize, n: usize, degree: usize, noisy: bool) -> Call {
     Call { tolerance, spacing: 1, ..plain(entry, (0..n).flat_map(point).collect(), degree) }
 }
 
-/// The least seconds of ours and of the Rust's, run in turn.
-pub fn in_turn(mut my: impl FnMut(), mut their: impl FnMut()) -> (f64, f64) {
-    let rounds = (0.3 / least_seconds(2, &mut their)).clamp(8.0, 100.0) as usize;
-    let (mut mine, mut theirs) = (f64::INFINITY, f64::INFINITY);
-    for _ in 0..rounds {
-        theirs = theirs.min(least_seconds(3, &mut their));
-        mine = mine.min(least_seconds(3, &mut my));
+/// Slices as long as the call lends them.
+struct Owned {
+    doubles: [Vec<f64>; 5],
+    mults: Vec<u32>,
+    index: Vec<usize>,
+    counts: Vec<usize>,
+}
+
+impl Owned {
+    fn new(c: &Call) -> Owned {
+        let n = c.lengths();
+        Owned { doubles: [0, 1, 2, 4, 6].map(|i| vec![0.0; n[i]]), mults: vec![0; n[3]], index: vec![0; n[5]], counts: vec![0; n[7]] }
     }
-    (mine, theirs)
+
+    /// Our call with them.
+    fn run(&mut self, c: &Call) -> u32 {
+        let [poles, flat, knots, work, largest] = &mut self.doubles;
+        let mut lent = Lent { poles, flat, knots, mults: &mut self.mults, work, index: &mut self.index, largest, counts: &mut self.counts };
+        ours::ladder(c.entry, black_box(&c.places), c.degree, c.count, c.tolerance, c.spacing, &mut lent)
+    }
 }
 
-/// The seconds of our call and of the Rust's.
-fn times(c: &Call) -> (f64, f64) {
-    let (n, points) = (c.lengths(), c.points());
-    let doubles = |i: usize| vec![0.0; n[i]];
-    let (mut poles, mut flat, mut knots, mut work, mut largest) = (doubles(0), doubles(1), doubles(2), doubles(4), doubles(6));
-    let (mut mults, mut index, mut counts) = (vec![0; n[3]], vec![0; n[5]], vec![0; n[7]]);
-    let mut lent = Lent {
-        poles: &mut poles, flat: &mut flat, knots: &mut knots, mults: &mut mults,
-        work: &mut work, index: &mut index, largest: &mut largest, counts: &mut counts,
+/// The Rust giving the same answer as our call, where its own call computes no deviation.
+fn measured(c: &Call, points: &[Point3D]) -> Option<pieces::Measured> {
+    match c.entry {
+        INTERPOLATE => pieces::interpolate_measured(points, c.degree, c.spacing != 0),
+        APPROXIMATE => pieces::approximate_measured(points, c.degree, c.count, c.spacing != 0),
+        _ => None,
+    }
+}
+
+/// The seconds of our call, of the Rust's, and of the Rust giving the same answer.
+fn times(c: &Call, fit: &Fit) -> (f64, f64, Option<f64>) {
+    let (mut owned, points) = (Owned::new(c), c.points());
+    let mut mine = || { black_box(owned.run(c)); };
+    let mut theirs = || { let _ = black_box(published(black_box(c), &points)); };
+    let Some(same) = measured(c, &points) else {
+        let [mine, theirs] = in_turn([&mut mine, &mut theirs]);
+        return (mine, theirs, None);
     };
-    let my = || { black_box(ours::ladder(c.entry, black_box(&c.places), c.degree, c.count, c.tolerance, c.spacing, &mut lent)); };
-    let their = || { let _ = black_box(published(black_box(c), &points)); };
-    in_turn(my, their)
+    let knots = all_same(&same.flat, &fit.flat) && all_same(&same.knots, &fit.knots) && same.mults == fit.mults;
+    assert!(knots && all_same(&ours::places(&same.poles), &fit.poles) && same.largest.to_bits() == fit.largest.to_bits() && same.unreadable == fit.unreadable);
+    let mut whole = || { let _ = black_box(measured(black_box(c), &points)); };
+    let [mine, theirs, whole] = in_turn([&mut mine, &mut theirs, &mut whole]);
+    (mine, theirs, Some(whole))
 }
 
-pub fn bench() {
-    for (n, degree) in [(64, 3), (64, 10), (256, 3), (256, 10), (1024, 3), (1024, 10)] {
-        for (entry, noisy) in [(INTERPOLATE, false), (INTERPOLATE, true), (WITHIN, false), (WITHIN, true)] {
+/// The stack of the ladders to try, of long ones with high degrees, and of others.
+pub fn stack(random: &mut Random, most: &mut Most) {
+    let mut calls: Vec<Call> = trials().into_iter().map(|trial| trial.call).collect();
+    for (entry, degree) in (0..4).flat_map(|entry| [1, 3, 24, 25].map(|degree| (entry, degree))) {
+        for (n, noisy) in [(26, false), (26, true), (1024, false), (1024, true)] {
             let c = timed(entry, n, degree, noisy);
-            let (mine, theirs) = times(&c);
-            let answer = answer(&c);
-            let (name, kind, mark) = (NAMES[entry], if noisy { "noisy" } else { "smooth" }, class_name(class(&answer)));
-            let poles = answer.map_or(0, |fit| fit.poles.len() / 3);
-            let what = format!("{name}, {kind}, n {n}, degree {degree}, {mark} with {poles} poles");
-            println!("{what}, us: ours {:.2}, the Rust's {:.2}, ratio {:.2}", mine * 1e6, theirs * 1e6, mine / theirs);
+            calls.extend([1e-2, 1e-5, f64::NAN].map(|tolerance| Call { tolerance, spacing: 0, count: n / 2 + 13, ..c.clone() }));
+            calls.push(c);
         }
     }
+    calls.extend((0..4_000).map(|_| call(random)));
+    for c in &calls {
+        let mut owned = Owned::new(c);
+        most.measure(NAMES[c.entry], || c.line(), &mut || { black_box(owned.run(c)); });
+    }
+}
+
+/// The calls whose times are taken, smooth or noisy.
+const TIMED: [(usize, bool); 6] = [(INTERPOLATE, false), (INTERPOLATE, true), (APPROXIMATE, false), (APPROXIMATE, true), (WITHIN, false), (WITHIN, true)];
+
+fn bench_one((entry, noisy): (usize, bool), n: usize, degree: usize) -> Timed {
+    let c = Call { count: (n / 2).max(degree + 1), ..timed(entry, n, degree, noisy) };
+    let fit = answer(&c).unwrap_or_else(|number| panic!("a timed ladder is refused with {number}"));
+    let (mine, theirs, same) = times(&c, &fit);
+    let (name, kind, mark) = (NAMES[entry], if noisy { "noisy" } else { "smooth" }, MARKS[fit.mark]);
+    let what = format!("{name}, {kind}, n {n}, degree {degree}, {mark} with {} poles", fit.poles.len() / 3);
+    Timed { what, mine, theirs, same }
+}
+
+/// Each call at growing sizes, with a line for how its time grows.
+pub fn bench() -> Vec<Timed> {
+    const SIZES: [usize; 5] = [16, 32, 64, 256, 1024];
+    let mut all = vec![];
+    for (timed, degree) in [3, 10].into_iter().flat_map(|degree| TIMED.map(|timed| (timed, degree))) {
+        let times: Vec<Timed> = SIZES.iter().map(|&n| bench_one(timed, n, degree)).collect();
+        times.iter().for_each(Timed::tell);
+        let per_point = |seconds: fn(&Timed) -> f64| times.iter().zip(SIZES).map(|(t, n)| format!("{:.0}", seconds(t) / n as f64 * 1e9)).collect::<Vec<_>>().join(", ");
+        let (name, kind) = (NAMES[timed.0], if timed.1 { "noisy" } else { "smooth" });
+        println!("{name}, {kind}, degree {degree}, ns a point at n {SIZES:?}: ours {}; the Rust's {}", per_point(|t| t.mine), per_point(|t| t.theirs));
+        all.extend(times);
+    }
+    all
 }

@@ -14,17 +14,22 @@ pub use surfaces::BSplineSurface;
 pub use tolerance::Tolerance;
 pub use vector::{Vector2D, Vector3D};
 
+mod all;
 mod bands;
+mod bench;
 mod grids;
 mod guarded;
 mod knots;
 mod ladders;
+mod nigorzai;
 mod ours;
 mod points;
 mod random;
 mod readings;
 mod roots;
+mod stack;
 mod tables;
+mod tally;
 
 fn main() {
     let words: Vec<String> = std::env::args().skip(1).collect();
@@ -38,20 +43,19 @@ fn main() {
         Some("ladders") => ladders::compare(number(1, 20_000), number(2, 1)),
         Some("grids") => grids::compare(number(1, 20_000), number(2, 1)),
         Some("card") => ladders::cards::compare(number(1, 20_000), number(2, 1)),
+        Some("all") => all::compare(number(1, 100_000), number(2, 1), number(3, 1)),
         Some("try") => ladders::compare_stated() + grids::compare_stated(),
+        Some("wrapper") => ladders::wrapped::compare(2_000, 1) + grids::wrapped::compare(500, 1) + readings::compare_wrapped(5_000, 1),
         Some("list") if words.len() == 2 => ladders::list(&words[1]),
-        Some("bench") => {
-            roots::bench();
-            readings::bench();
-            bands::bench();
-            tables::bench();
-            ladders::bench();
-            grids::bench();
+        Some("stack") => {
+            stack::bench();
             0
         }
+        Some("bench") if bench::run(words.get(1).map(String::as_str)) => 0,
         _ => {
             eprintln!("beside roots COUNT SEED | readings COUNT SEED | knots COUNT SEED | bands COUNT SEED | tables COUNT SEED");
-            eprintln!("     | ladders COUNT SEED | grids COUNT SEED | card COUNT SEED | try | list FILE | bench");
+            eprintln!("     | ladders COUNT SEED | grids COUNT SEED | card COUNT SEED | all COUNT SEED THREADS | try | wrapper | list FILE | stack");
+            eprintln!("     | bench [roots | readings | bands | tables | ladders | grids]");
             std::process::exit(2)
         }
     };

@@ -1,14 +1,13 @@
-//! The functions of this repository's static library, and safe functions over them. A slice passes as a pointer and then a length.
+//! The inner functions of libpieces.a, and safe functions over them. A slice passes as a pointer and then a length. The library's own calls are those of
+//! nigorzai.rs.
 use crate::Point3D;
+pub use crate::nigorzai::{GridLent, Lent, lent_read as read};
+use crate::nigorzai::{Asked, GridAsked, lent_grid, lent_ladder};
 
 unsafe extern "C" {
     safe fn pieces_sqrt(x: f64) -> f64;
     safe fn pieces_whole_part(x: f64) -> usize;
     fn pieces_sort(list: *mut f64, n: usize);
-    fn nigorzai_read(
-        poles: *const f64, poles_len: usize, degree: usize, knots: *const f64, knots_len: usize, mults: *const u32, mults_len: usize, u: f64,
-        out: *mut f64, out_len: usize,
-    ) -> u32;
     fn pieces_point_parameters(points: *const f64, len: usize, start: usize, stride: usize, n: usize, centripetal: bool, out: *mut f64, out_len: usize) -> bool;
     fn pieces_shared_parameters(
         points: *const f64, len: usize, lines: usize, pitch: usize, n: usize, stride: usize, centripetal: bool, out: *mut f64, out_len: usize,
@@ -48,38 +47,6 @@ unsafe extern "C" {
         columns: usize, m: usize, poles: usize, curve: usize, out: usize, most: *mut f64, most_len: usize,
     ) -> usize;
     fn pieces_curve_point(flat: *const f64, flat_len: usize, degree: usize, poles: *const f64, poles_len: usize, u: f64, out: *mut f64, out_len: usize);
-    fn nigorzai_interpolate(
-        points: *const f64, points_len: usize, degree: usize, spacing: usize,
-        poles: *mut f64, poles_len: usize, flat: *mut f64, flat_len: usize, knots: *mut f64, knots_len: usize, mults: *mut u32, mults_len: usize,
-        work: *mut f64, work_len: usize, index: *mut usize, index_len: usize, largest: *mut f64, largest_len: usize, counts: *mut usize, counts_len: usize,
-    ) -> u32;
-    fn nigorzai_approximate(
-        points: *const f64, points_len: usize, degree: usize, count: usize, spacing: usize,
-        poles: *mut f64, poles_len: usize, flat: *mut f64, flat_len: usize, knots: *mut f64, knots_len: usize, mults: *mut u32, mults_len: usize,
-        work: *mut f64, work_len: usize, index: *mut usize, index_len: usize, largest: *mut f64, largest_len: usize, counts: *mut usize, counts_len: usize,
-    ) -> u32;
-    fn nigorzai_approximate_within(
-        points: *const f64, points_len: usize, degree: usize, tolerance: f64, spacing: usize,
-        poles: *mut f64, poles_len: usize, flat: *mut f64, flat_len: usize, knots: *mut f64, knots_len: usize, mults: *mut u32, mults_len: usize,
-        work: *mut f64, work_len: usize, index: *mut usize, index_len: usize, largest: *mut f64, largest_len: usize, counts: *mut usize, counts_len: usize,
-    ) -> u32;
-    fn nigorzai_search_spread(
-        points: *const f64, points_len: usize, degree: usize, tolerance: f64, spacing: usize,
-        poles: *mut f64, poles_len: usize, flat: *mut f64, flat_len: usize, knots: *mut f64, knots_len: usize, mults: *mut u32, mults_len: usize,
-        work: *mut f64, work_len: usize, index: *mut usize, index_len: usize, largest: *mut f64, largest_len: usize, counts: *mut usize, counts_len: usize,
-    ) -> u32;
-    fn nigorzai_approximate_grid(
-        points: *const f64, points_len: usize, rows: usize, cols: usize, u_degree: usize, v_degree: usize, u_count: usize, v_count: usize, spacing: usize,
-        poles: *mut f64, poles_len: usize, u_flat: *mut f64, u_flat_len: usize, u_knots: *mut f64, u_knots_len: usize, u_mults: *mut u32, u_mults_len: usize,
-        v_flat: *mut f64, v_flat_len: usize, v_knots: *mut f64, v_knots_len: usize, v_mults: *mut u32, v_mults_len: usize,
-        work: *mut f64, work_len: usize, index: *mut usize, index_len: usize, largest: *mut f64, largest_len: usize, counts: *mut usize, counts_len: usize,
-    ) -> u32;
-    fn nigorzai_approximate_grid_within(
-        points: *const f64, points_len: usize, rows: usize, cols: usize, u_degree: usize, v_degree: usize, tolerance: f64, spacing: usize,
-        poles: *mut f64, poles_len: usize, u_flat: *mut f64, u_flat_len: usize, u_knots: *mut f64, u_knots_len: usize, u_mults: *mut u32, u_mults_len: usize,
-        v_flat: *mut f64, v_flat_len: usize, v_knots: *mut f64, v_knots_len: usize, v_mults: *mut u32, v_mults_len: usize,
-        work: *mut f64, work_len: usize, index: *mut usize, index_len: usize, largest: *mut f64, largest_len: usize, counts: *mut usize, counts_len: usize,
-    ) -> u32;
 }
 
 pub fn sqrt(x: f64) -> f64 {
@@ -92,16 +59,6 @@ pub fn whole_part(x: f64) -> usize {
 
 pub fn sort(list: &mut [f64]) {
     unsafe { pieces_sort(list.as_mut_ptr(), list.len()) }
-}
-
-/// The number of a refusal, or 0 with the point in `out`, which has three places or more.
-pub fn read(poles: &[f64], degree: usize, knots: &[f64], mults: &[u32], u: f64, out: &mut [f64]) -> u32 {
-    assert!(out.len() >= 3);
-    unsafe {
-        nigorzai_read(
-            poles.as_ptr(), poles.len(), degree, knots.as_ptr(), knots.len(), mults.as_ptr(), mults.len(), u, out.as_mut_ptr(), out.len(),
-        )
-    }
 }
 
 /// A reading of a curve whose parts pass the reader's checks.
@@ -362,73 +319,20 @@ pub const APPROXIMATE: usize = 1;
 pub const WITHIN: usize = 2;
 pub const SEARCH: usize = 3;
 
-/// The eight slices that a ladder call is lent.
-pub struct Lent<'a> {
-    pub poles: &'a mut [f64],
-    pub flat: &'a mut [f64],
-    pub knots: &'a mut [f64],
-    pub mults: &'a mut [u32],
-    pub work: &'a mut [f64],
-    pub index: &'a mut [usize],
-    pub largest: &'a mut [f64],
-    pub counts: &'a mut [usize],
-}
-
 /// One of the four ladder calls, of which `count` and `tolerance` are left out where it has none: 0 for a fit, or the number of a refusal.
 pub fn ladder(entry: usize, points: &[f64], degree: usize, count: usize, tolerance: f64, spacing: usize, lent: &mut Lent) -> u32 {
-    macro_rules! call {
-        ($f:ident, $($own:expr),*) => {
-            unsafe {
-                $f(
-                    points.as_ptr(), points.len(), $($own),*, lent.poles.as_mut_ptr(), lent.poles.len(), lent.flat.as_mut_ptr(), lent.flat.len(),
-                    lent.knots.as_mut_ptr(), lent.knots.len(), lent.mults.as_mut_ptr(), lent.mults.len(), lent.work.as_mut_ptr(), lent.work.len(),
-                    lent.index.as_mut_ptr(), lent.index.len(), lent.largest.as_mut_ptr(), lent.largest.len(), lent.counts.as_mut_ptr(), lent.counts.len(),
-                )
-            }
-        };
-    }
-    match entry {
-        INTERPOLATE => call!(nigorzai_interpolate, degree, spacing),
-        APPROXIMATE => call!(nigorzai_approximate, degree, count, spacing),
-        WITHIN => call!(nigorzai_approximate_within, degree, tolerance, spacing),
-        _ => call!(nigorzai_search_spread, degree, tolerance, spacing),
-    }
-}
-
-/// The eleven slices that a grid call is lent.
-pub struct GridLent<'a> {
-    pub poles: &'a mut [f64],
-    pub u_flat: &'a mut [f64],
-    pub u_knots: &'a mut [f64],
-    pub u_mults: &'a mut [u32],
-    pub v_flat: &'a mut [f64],
-    pub v_knots: &'a mut [f64],
-    pub v_mults: &'a mut [u32],
-    pub work: &'a mut [f64],
-    pub index: &'a mut [usize],
-    pub largest: &'a mut [f64],
-    pub counts: &'a mut [usize],
+    let asked = match entry {
+        INTERPOLATE => Asked::Through,
+        APPROXIMATE => Asked::Poles(count),
+        WITHIN => Asked::Within(tolerance),
+        _ => Asked::SpreadWithin(tolerance),
+    };
+    lent_ladder(points, degree, asked, spacing, lent)
 }
 
 /// A grid call, with pole counts along u and v where they are chosen, else within the tolerance: 0 for a fit, or the number of a refusal.
 pub fn grid(
-    points: &[f64], [rows, cols]: [usize; 2], [p, q]: [usize; 2], chosen: Option<[usize; 2]>, tolerance: f64, spacing: usize, lent: &mut GridLent,
+    points: &[f64], size: [usize; 2], degrees: [usize; 2], chosen: Option<[usize; 2]>, tolerance: f64, spacing: usize, lent: &mut GridLent,
 ) -> u32 {
-    macro_rules! call {
-        ($f:ident, $($own:expr),*) => {
-            unsafe {
-                $f(
-                    points.as_ptr(), points.len(), rows, cols, p, q, $($own),*, spacing, lent.poles.as_mut_ptr(), lent.poles.len(),
-                    lent.u_flat.as_mut_ptr(), lent.u_flat.len(), lent.u_knots.as_mut_ptr(), lent.u_knots.len(), lent.u_mults.as_mut_ptr(), lent.u_mults.len(),
-                    lent.v_flat.as_mut_ptr(), lent.v_flat.len(), lent.v_knots.as_mut_ptr(), lent.v_knots.len(), lent.v_mults.as_mut_ptr(), lent.v_mults.len(),
-                    lent.work.as_mut_ptr(), lent.work.len(), lent.index.as_mut_ptr(), lent.index.len(),
-                    lent.largest.as_mut_ptr(), lent.largest.len(), lent.counts.as_mut_ptr(), lent.counts.len(),
-                )
-            }
-        };
-    }
-    match chosen {
-        Some([m, n]) => call!(nigorzai_approximate_grid, m, n),
-        None => call!(nigorzai_approximate_grid_within, tolerance),
-    }
+    lent_grid(points, size, degrees, chosen.map_or(GridAsked::Within(tolerance), GridAsked::Poles), spacing, lent)
 }

@@ -55,8 +55,20 @@ fn attempt(points: &[Point3D], degree: usize) -> impl FnMut(&[f64], &BasisTable,
     }
 }
 
-pub fn refined(points: &[Point3D], params: &[f64], degree: usize, tolerance: f64) -> Option<Parts> {
-    super::fit_with_refined_knots(params, degree, tolerance, attempt(points, degree))
+/// Whether refinement will split beside the first span, whose one parameter lies beyond the halfway mark: the neighbour before it is none.
+fn asks_alone(firsts: &[usize], deviations: &[f64], tolerance: f64) -> bool {
+    let largest = deviations.iter().fold(0.0f64, |a, &d| a.max(d));
+    firsts[0] != firsts[1] && deviations[0] > tolerance && deviations[0] >= 0.5 * (tolerance + largest)
+}
+
+/// Told in `lone`: whether the first span's lone parameter asked for its neighbours in some round.
+pub fn refined(points: &[Point3D], params: &[f64], degree: usize, tolerance: f64, lone: &mut bool) -> Option<Parts> {
+    let mut attempt = attempt(points, degree);
+    super::fit_with_refined_knots(params, degree, tolerance, |flat, basis, deviations| {
+        let poles = attempt(flat, basis, deviations)?;
+        *lone |= asks_alone(&basis.firsts, deviations, tolerance);
+        Some(poles)
+    })
 }
 
 pub fn spread(points: &[Point3D], params: &[f64], degree: usize, tolerance: f64) -> Option<Parts> {
@@ -79,6 +91,54 @@ pub fn chosen(points: &[Point3D], params: &[f64], degree: usize, count: usize) -
     let flat = approximation_knots(params, count, degree);
     let poles = least_squares(&BasisTable::new(&flat, degree, params), count, 1, |_, k| points[k])?;
     Some((flat, poles))
+}
+
+/// Whether a try of the spread search with so many poles is within the tolerance.
+pub fn passes(points: &[Point3D], params: &[f64], degree: usize, count: usize, tolerance: f64) -> bool {
+    let flat = approximation_knots(params, count, degree);
+    let mut deviations = vec![0.0; params.len()];
+    let poles = attempt(points, degree)(&flat, &BasisTable::new(&flat, degree, params), &mut deviations);
+    poles.is_some() && deviations.iter().all(|&d| d <= tolerance)
+}
+
+/// What our calls hand out of a curve: its parts, the largest distance of a point from it, and how many distances are NaN.
+pub struct Measured {
+    pub flat: Vec<f64>,
+    pub knots: Vec<f64>,
+    pub mults: Vec<u32>,
+    pub poles: Vec<Point3D>,
+    pub largest: f64,
+    pub unreadable: usize,
+}
+
+/// The distances on the table that the fit was made on, so that nothing is computed twice.
+fn measured(points: &[Point3D], basis: &BasisTable, flat: Vec<f64>, poles: Vec<Point3D>) -> Measured {
+    let (knots, mults) = super::compress_knots(&flat);
+    let (mut largest, mut unreadable) = (0.0f64, 0);
+    for (k, &point) in points.iter().enumerate() {
+        let distance = basis.point(k, &poles).distance(point);
+        largest = largest.max(distance);
+        unreadable += distance.is_nan() as usize;
+    }
+    Measured { flat, knots, mults, poles, largest, unreadable }
+}
+
+/// `interpolate`, measured.
+pub fn interpolate_measured(points: &[Point3D], degree: usize, centripetal: bool) -> Option<Measured> {
+    let params = point_parameters(points, centripetal)?;
+    let flat = averaged_knots(&params, degree);
+    let basis = BasisTable::new(&flat, degree, &params);
+    let poles = interpolation(&basis, 1, |_, k| points[k]);
+    Some(measured(points, &basis, flat, poles))
+}
+
+/// `approximate`, measured.
+pub fn approximate_measured(points: &[Point3D], degree: usize, count: usize, centripetal: bool) -> Option<Measured> {
+    let params = point_parameters(points, centripetal)?;
+    let flat = approximation_knots(&params, count, degree);
+    let basis = BasisTable::new(&flat, degree, &params);
+    let poles = least_squares(&basis, count, 1, |_, k| points[k])?;
+    Some(measured(points, &basis, flat, poles))
 }
 
 /// Each point's distance from the fit read at the point's own parameter.

@@ -10,6 +10,12 @@ impl Random {
         r
     }
 
+    /// Of a numbered part of a run.
+    pub fn of_part(seed: u64, part: u64) -> Self {
+        let mut r = Random::new(seed);
+        Random::new(r.next() ^ part.wrapping_mul(0xd6e8_feb8_6659_fd93))
+    }
+
     pub fn next(&mut self) -> u64 {
         self.0 ^= self.0 >> 12;
         self.0 ^= self.0 << 25;

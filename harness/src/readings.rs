@@ -2,9 +2,11 @@
 use crate::Point3D;
 use crate::curve_math::bspline::KnotVector;
 use crate::curves::BSplineConstructionError as Error;
+use crate::nigorzai;
 use crate::ours;
 use crate::random::{Random, all_same, least_seconds};
-use std::collections::BTreeMap;
+use crate::stack::Most;
+use crate::tally::{self, Tally};
 use std::hint::black_box;
 
 /// The parts of a curve and a parameter.
@@ -141,40 +143,156 @@ fn damaged(random: &mut Random, c: &mut Case) {
     }
 }
 
-pub fn compare(count: u64, seed: u64) -> u64 {
-    let mut random = Random::new(seed);
-    let mut different = 0;
-    let mut answers: BTreeMap<u32, u64> = BTreeMap::new();
-    let mut done = 0;
-    while done < count {
-        let mut case = valid(&mut random);
-        if random.one_in(3) {
-            for _ in 0..random.from_to(1, 2) {
-                if !case.knots.is_empty() && !case.mults.is_empty() {
-                    damaged(&mut random, &mut case);
-                }
-            }
-        }
-        for _ in 0..if case.knots.len() > 1 { 4 } else { 1 } {
-            let (theirs, point) = reference(&case);
-            let mut out = [7.0; 5];
-            let ours = ours::read(&case.poles, case.degree, &case.knots, &case.mults, case.u, &mut out[..4]);
-            let wanted = if theirs == 0 { [point[0], point[1], point[2], 7.0, 7.0] } else { [7.0; 5] };
-            *answers.entry(theirs).or_default() += 1;
-            done += 1;
-            if ours != theirs || !all_same(&out, &wanted) {
-                different += 1;
-                if different < 5 {
-                    println!("different: {theirs} {point:?} against {ours} {out:?} for {case:?}");
-                }
-            }
-            if !case.knots.is_empty() {
-                case.u = parameter(&mut random, &case.knots);
+/// A curve, valid or damaged.
+fn any(random: &mut Random) -> Case {
+    let mut case = valid(random);
+    if random.one_in(3) {
+        for _ in 0..random.from_to(1, 2) {
+            if !case.knots.is_empty() && !case.mults.is_empty() {
+                damaged(random, &mut case);
             }
         }
     }
-    println!("readings: {done}, seed {seed}, by answer {answers:?}: {different} different");
+    case
+}
+
+/// What differs from the Rust's answer after our reading, if anything does.
+fn difference(case: &Case, (theirs, point): (u32, [f64; 3])) -> Option<String> {
+    let mut out = [7.0; 5];
+    let ours = ours::read(&case.poles, case.degree, &case.knots, &case.mults, case.u, &mut out[..4]);
+    let wanted = if theirs == 0 { [point[0], point[1], point[2], 7.0, 7.0] } else { [7.0; 5] };
+    (ours != theirs || !all_same(&out, &wanted)).then(|| format!("{ours} with {out:?}, not {theirs} with {wanted:?}"))
+}
+
+/// What differs between the reading of nigorzai.rs, the guarded one and the Rust's, if anything does.
+pub fn unlike(poles: &[[f64; 3]], degree: usize, knots: &[f64], mults: &[u32], u: f64) -> Option<String> {
+    let case = Case { degree, knots: knots.to_vec(), mults: mults.to_vec(), poles: poles.concat(), u };
+    let (number, point) = reference(&case);
+    let right = match nigorzai::read(poles, degree, knots, mults, u) {
+        Ok(at) => number == 0 && all_same(&at, &point),
+        Err(refusal) => refusal == number,
+    };
+    (!right).then(|| format!("a reading that is not {number} with {point:?} for {case:?}")).or_else(|| difference(&case, (number, point)))
+}
+
+/// So many curves through the reading of nigorzai.rs.
+pub fn compare_wrapped(count: u64, seed: u64) -> u64 {
+    let (mut random, mut different) = (Random::new(seed), 0);
+    for _ in 0..count {
+        let case = any(&mut random);
+        let poles: Vec<[f64; 3]> = case.poles.chunks_exact(3).map(|q| [q[0], q[1], q[2]]).collect();
+        if let Some(what) = unlike(&poles, case.degree, &case.knots, &case.mults, case.u) {
+            different += 1;
+            println!("different: {what}");
+        }
+    }
+    println!("wrapper: {count} readings: {different} different");
     different
+}
+
+/// The case with the knot of this number left out, and as many poles as its multiplicity asks.
+fn without(case: &Case, i: usize) -> Case {
+    let mut less = case.clone();
+    let poles = if i < less.mults.len() { 3 * less.mults.remove(i) as usize } else { 0 };
+    less.poles.truncate(less.poles.len().saturating_sub(poles));
+    if i < less.knots.len() {
+        less.knots.remove(i);
+    }
+    less
+}
+
+/// Smaller cases: a knot left out; fewer poles; a multiplicity 1 less; rounder numbers.
+fn smaller(case: &Case) -> Vec<Case> {
+    let length = case.knots.len().max(case.mults.len());
+    let mut cases: Vec<Case> = (0..length).map(|i| without(case, i)).collect();
+    for fewer in [3, 1] {
+        cases.push(Case { poles: case.poles[..case.poles.len().saturating_sub(fewer)].to_vec(), ..case.clone() });
+    }
+    for (i, &m) in case.mults.iter().enumerate().filter(|(_, m)| **m > 1) {
+        let mut less = Case { poles: case.poles[..case.poles.len().saturating_sub(3)].to_vec(), ..case.clone() };
+        less.mults[i] = m - 1;
+        cases.push(less);
+    }
+    cases.push(Case { poles: vec![0.0; case.poles.len()], ..case.clone() });
+    cases.extend(tally::rounder(&case.poles).map(|poles| Case { poles, ..case.clone() }));
+    cases.extend(tally::rounder(&case.knots).map(|knots| Case { knots, ..case.clone() }));
+    cases.extend(tally::rounder(&[case.u]).map(|u| Case { u: u[0], ..case.clone() }));
+    cases
+}
+
+/// How much there is of a case: its numbers, and the digits with which they are written.
+fn weight(case: &Case) -> (usize, usize) {
+    let numbers = case.knots.len() + case.poles.len() + case.mults.iter().map(|&m| m as usize).sum::<usize>();
+    (numbers, tally::digits(&case.poles) + tally::digits(&case.knots) + tally::digits(&[case.u]))
+}
+
+/// The smallest case found that still differs.
+fn smallest(case: Case) -> Case {
+    tally::smallest(case, smaller, weight, |less| difference(less, reference(less)).is_some())
+}
+
+const ANSWERS: &str = "readings by answer (0: read)";
+const DEGREES: &str = "degrees of curves read";
+const POLES: &str = "poles of curves read";
+
+/// The rare corners: whether a reading that gives this point stands in each.
+const RARE: [(&str, fn(&Case, &[f64; 3]) -> bool); 7] = [
+    ("the parameter before the first knot", |case, _| case.u < case.knots[0]),
+    ("the parameter behind the last knot", |case, _| case.u > case.knots[case.knots.len() - 1]),
+    ("the parameter on a knot", |case, _| case.knots.contains(&case.u)),
+    ("the parameter -0.0 on the first knot 0.0", |case, _| case.u == 0.0 && case.u.is_sign_negative() && case.knots[0].to_bits() == 0),
+    ("the parameter infinite", |case, _| case.u.is_infinite()),
+    ("ends not clamped", |case, _| case.mults[0] as usize <= case.degree || case.mults[case.mults.len() - 1] as usize <= case.degree),
+    ("a point not finite", |_, point| point.iter().any(|x| !x.is_finite())),
+];
+
+const CORNERS: &str = "reading corners";
+
+/// What a report shows, none of it met.
+pub fn expected() -> Tally {
+    let tally = Tally::default().expect(ANSWERS, [0, 2, 6, 7, 8, 12, 13, 14, 15]).expect(DEGREES, 1..=25).expect(POLES, 2..=1024);
+    tally.expect(CORNERS, RARE.map(|(name, _)| name))
+}
+
+fn count(tally: &mut Tally, case: &Case, (number, point): (u32, [f64; 3])) {
+    tally.count(ANSWERS, &number.to_string(), 1);
+    if number == 0 {
+        tally.count(DEGREES, &case.degree.to_string(), 1);
+        tally.count(POLES, &(case.poles.len() / 3).to_string(), 1);
+        RARE.iter().for_each(|(name, stands)| tally.count(CORNERS, name, stands(case, &point) as u64));
+    }
+}
+
+/// Reads one curve at so many parameters, or once where it has none, and counts; how many readings it was, and what differs from the Rust's, if anything does.
+pub fn some(random: &mut Random, most: u64, tally: &mut Tally) -> (u64, Option<String>) {
+    let mut case = any(random);
+    let times = if case.knots.len() > 1 { most } else { 1 };
+    for done in 1..=times {
+        let wanted = reference(&case);
+        count(tally, &case, wanted);
+        if let Some(what) = difference(&case, wanted) {
+            let less = smallest(case.clone());
+            let still = difference(&less, reference(&less)).unwrap_or_default();
+            return (done, Some(format!("different: {what} for {case:?}\nsmallest: {still} for {less:?}")));
+        }
+        if !case.knots.is_empty() {
+            case.u = parameter(random, &case.knots);
+        }
+    }
+    (times, None)
+}
+
+pub fn compare(count: u64, seed: u64) -> u64 {
+    tally::run("readings", count, seed, expected(), |random, most, tally| some(random, most.min(4), tally))
+}
+
+/// The stack of readings, degree 25 among them.
+pub fn stack(random: &mut Random, most: &mut Most) {
+    for _ in 0..20_000 {
+        let (case, mut out) = (any(random), [0.0; 3]);
+        let what = || format!("a curve of degree {}, {} knots and {} poles", case.degree, case.knots.len(), case.poles.len() / 3);
+        most.measure("read", what, &mut || { black_box(ours::read(&case.poles, case.degree, &case.knots, &case.mults, case.u, &mut out)); });
+    }
 }
 
 /// ns a reading of a validated curve, ours and the Rust's, and of one whose parts are checked at each reading.

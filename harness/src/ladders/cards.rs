@@ -27,7 +27,7 @@ fn three(line: &str) -> Option<[&str; 3]> {
 }
 
 /// The call that a card's text asks for; none for an unreadable text.
-fn parsed(text: &[u8]) -> Option<Call> {
+pub(super) fn parsed(text: &[u8]) -> Option<Call> {
     let text = std::str::from_utf8(text).ok()?.strip_suffix('\n')?;
     let mut lines = text.split('\n');
     if lines.next()? != "degree spacing tolerance" {
@@ -59,7 +59,7 @@ fn answered(text: &[u8]) -> Answer {
 }
 
 /// What is printed for an answer.
-fn printed(answer: &Answer) -> String {
+pub(super) fn printed(answer: &Answer) -> String {
     let fit = match answer {
         Err(number) => return format!("refused\n{number}\n"),
         Ok(fit) => fit,
