@@ -15,7 +15,7 @@ use borrow.Author.Tests.{lt-ltb, le-ltb}
 use Rattle.places.specs.Places.{listOf, laid}
 use Rattle.places.specs.Regions.{part}
 use Rattle.places.proofs.RegionLaws.{length-part, getD-part}
-use Rattle.places.proofs.PlaceLaws.{length-listOf, listOf-same, listOf-at, laid-front, laid-below, laid-at, laid-same, laid-over, laid-wider, length-laid, length-filled}
+use Rattle.places.proofs.PlaceLaws.{length-listOf, listOf-same, listOf-at, laid-front, laid-below, laid-at, laid-same, laid-over, laid-laid, laid-wider, length-laid, length-filled}
 use Rattle.geometry.specs.Doubles.{_⊕_, _⊗_, _⊘_, one, at}
 use Rattle.bspline.specs.Basis.{share, rising, row, basis, leftOf, rightOf, basisAt}
 
@@ -85,6 +85,14 @@ module _ (left right : ℕ → Float) where
       let two : d + 2 ≡ d + 1 + 1 = omega arith in
       ap (basis left right) (add-one d) ∙ ap (λ (m : ℕ). listOf m (row left right (at (basis left right d)) (d + 1))) two
 
+-- the functions of degree d + 1, worked out from distances and functions that agree with these
+next-row : (left left′ right right′ N : ℕ → Float) (d : ℕ) → ((k : ℕ) → 1 ≤ k → k ≤ d + 1 → left k ≡ left′ k) → ((k : ℕ) → 1 ≤ k → k ≤ d + 1 → right k ≡ right′ k)
+    → ((k : ℕ) → k < d + 1 → N k ≡ at (basis left′ right′ d) k) → (i : ℕ) → i < d + 1 + 1 → row left right N (d + 1) i ≡ at (basis left′ right′ (d + 1)) i
+next-row left left′ right right′ N d l r n i h =
+    row-agree left left′ right right′ N (at (basis left′ right′ d)) (d + 1) l r n i (omega arith)
+    ∙ sym (listOf-at (d + 1 + 1) (row left′ right′ (at (basis left′ right′ d)) (d + 1)) i nan h)
+    ∙ ap (λ (x : List Float). at x i) (sym (basis-next left′ right′ d))
+
 -- ---- knots and values in one buffer: the values are laid from `start` on, the knots stand before
 
 -- a list that agrees with another below `start` has the same distances there
@@ -108,14 +116,58 @@ basis-in-next d knot start u old out raised low up fits e put =
     let below : (i : ℕ) → i < start → at out i ≡ at old i = λ i h. ap (λ (x : List Float). at x i) e ∙ laid-below start (d + 1) _ old i nan h in
     let agree = distances-agree out old knot start u (d + 1) low up below in
     let there : (k : ℕ) → k < d + 1 → at out (start + k) ≡ at (basis L R d) k = λ k h. ap (λ (x : List Float). at x (start + k)) e ∙ laid-at start (d + 1) (at (basis L R d)) old k nan h (omega arith) in
-    let each-row : (i : ℕ) → i < d + 1 + 1 → row (leftOf out knot u) (rightOf out knot u) (λ r. at out (start + r)) (d + 1) i ≡ at (basis L R (d + 1)) i = λ i h.
-    row-agree (leftOf out knot u) L (rightOf out knot u) R (λ r. at out (start + r)) (at (basis L R d)) (d + 1) (agree .0) (agree .1) there i (omega arith)
-    ∙ sym (listOf-at (d + 1 + 1) (row L R (at (basis L R d)) (d + 1)) i nan h)
-    ∙ ap (λ (x : List Float). at x i) (sym (basis-next L R d)) in
     put
-    ∙ laid-same start (d + 1 + 1) _ (at (basis L R (d + 1))) out each-row
+    ∙ laid-same start (d + 1 + 1) _ (at (basis L R (d + 1))) out (next-row _ L _ R _ d (agree .0) (agree .1) there)
     ∙ ap (laid start (d + 1 + 1) (at (basis L R (d + 1)))) e
     ∙ laid-wider start (d + 1) (d + 1 + 1) (at (basis L R (d + 1))) (at (basis L R d)) old (omega arith)
+
+-- two degrees at a time
+pub basis-in-two : (d knot start : ℕ) (u : Float) (old out raised : List Float) → d + 2 ≤ knot → knot + (d + 2) < start → start + d + 2 < length old
+    → out ≡ laid start (d + 1) (at (basis (leftOf old knot u) (rightOf old knot u) d)) old
+    → raised ≡ laid start (d + 1 + 2) (row (leftOf out knot u) (rightOf out knot u) (row (leftOf out knot u) (rightOf out knot u) (λ r. at out (start + r)) (d + 1)) (d + 1 + 1)) out
+    → raised ≡ laid start (d + 2 + 1) (at (basis (leftOf old knot u) (rightOf old knot u) (d + 2))) old
+basis-in-two d knot start u old out raised low up fits e put =
+    let L = leftOf old knot u in
+    let R = rightOf old knot u in
+    let below : (i : ℕ) → i < start → at out i ≡ at old i = λ i h. ap (λ (x : List Float). at x i) e ∙ laid-below start (d + 1) _ old i nan h in
+    let agree = distances-agree out old knot start u (d + 2) low up below in
+    let there : (k : ℕ) → k < d + 1 → at out (start + k) ≡ at (basis L R d) k = λ k h. ap (λ (x : List Float). at x (start + k)) e ∙ laid-at start (d + 1) (at (basis L R d)) old k nan h (omega arith) in
+    let one-on = next-row (leftOf out knot u) L (rightOf out knot u) R (λ r. at out (start + r)) d (λ k a b. agree .0 k a (omega arith)) (λ k a b. agree .1 k a (omega arith)) there in
+    let N = row (leftOf out knot u) (rightOf out knot u) (λ r. at out (start + r)) (d + 1) in
+    let two-on = next-row (leftOf out knot u) L (rightOf out knot u) R N (d + 1) (λ k a b. agree .0 k a (omega arith)) (λ k a b. agree .1 k a (omega arith)) one-on in
+    let two : d + 1 + 1 ≡ d + 2 = omega arith in
+    let three : d + 1 + 2 ≡ d + 1 + 1 + 1 = omega arith in
+    put
+    ∙ ap (λ (m : ℕ). laid start m (row (leftOf out knot u) (rightOf out knot u) N (d + 1 + 1)) out) three
+    ∙ laid-same start (d + 1 + 1 + 1) _ (at (basis L R (d + 1 + 1))) out two-on
+    ∙ ap (laid start (d + 1 + 1 + 1) (at (basis L R (d + 1 + 1)))) e
+    ∙ laid-wider start (d + 1) (d + 1 + 1 + 1) (at (basis L R (d + 1 + 1))) (at (basis L R d)) old (omega arith)
+    ∙ ap (λ (m : ℕ). laid start (m + 1) (at (basis L R m)) old) two
+
+-- the first functions laid before the others make no difference
+pub basis-in-again : (m d knot start : ℕ) (u : Float) (old mid out : List Float) → m ≤ d → d ≤ knot → knot + d < start
+    → mid ≡ laid start (m + 1) (at (basisAt old m knot u)) old
+    → out ≡ laid start (d + 1) (at (basis (leftOf mid knot u) (rightOf mid knot u) d)) mid
+    → out ≡ laid start (d + 1) (at (basisAt old d knot u)) old
+unfolding basisAt
+basis-in-again m d knot start u old mid out h low up e f =
+    let agree = distances-agree mid old knot start u d low up (λ i k. ap (λ (x : List Float). at x i) e ∙ laid-below start (m + 1) _ old i nan k) in
+    f
+    ∙ ap (λ (x : List Float). laid start (d + 1) (at x) mid) (basis-agree _ _ _ _ d (agree .0) (agree .1))
+    ∙ ap (laid start (d + 1) (at (basis (leftOf old knot u) (rightOf old knot u) d))) e
+    ∙ laid-wider start (m + 1) (d + 1) (at (basis (leftOf old knot u) (rightOf old knot u) d)) _ old (omega arith)
+
+-- what stands before the first pair: the functions of degree m, whatever list their distances are taken from
+pub basis-in-mid : (m knot start : ℕ) (u : Float) (old mid : List Float) → m ≤ knot → knot + m < start → mid ≡ laid start (m + 1) (at (basisAt old m knot u)) old
+    → mid ≡ laid start (m + 1) (at (basis (leftOf mid knot u) (rightOf mid knot u) m)) mid
+unfolding basisAt
+basis-in-mid m knot start u old mid low up e =
+    let B = at (basis (leftOf old knot u) (rightOf old knot u) m) in
+    let agree = distances-agree mid old knot start u m low up (λ i k. ap (λ (x : List Float). at x i) e ∙ laid-below start (m + 1) _ old i nan k) in
+    e
+    ∙ sym (laid-laid start (m + 1) B B old)
+    ∙ ap (laid start (m + 1) B) (sym e)
+    ∙ ap (λ (x : List Float). laid start (m + 1) (at x) mid) (sym (basis-agree _ _ _ _ m (agree .0) (agree .1)))
 
 pub basis-in-last : (d knot start : ℕ) (u : Float) (old out : List Float) → d ≤ knot → knot + d < start
     → out ≡ laid start (d + 1) (at (basis (leftOf (set old start one) knot u) (rightOf (set old start one) knot u) d)) (set old start one)

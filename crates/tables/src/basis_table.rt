@@ -30,7 +30,7 @@ fn fill_rows(
     let mut span = degree;
     for k in 0..count {
         let t = work[params + k];
-        span = bspline::spans::advance(&work[flat..end], degree, span, t);
+        span = crate::rows::next_span(&work[flat..end], degree, span, t);
         firsts[k] = span - degree;
         bspline::basis::basis_values(work, flat + span, degree, t, values + k * width);
     }

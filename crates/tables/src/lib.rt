@@ -3,6 +3,7 @@
 pub mod basis_table;
 pub mod datum;
 pub mod deviations;
+pub mod rows;
 pub mod squares;
 pub mod through;
 

@@ -34,20 +34,20 @@ mul-t c = omega arith
 slice-read-t : tie.Need-slice-read-t Inv-loop μ-loop
 slice-read-t c = omega arith
 
-mul-advance : tie.Need-mul-advance Inv-loop μ-loop
-mul-advance c = omega arith
+mul-next-span : tie.Need-mul-next-span Inv-loop μ-loop
+mul-next-span c = omega arith
 
-sub-advance : tie.Need-sub-advance Inv-loop μ-loop
-sub-advance c = omega arith
+sub-next-span : tie.Need-sub-next-span Inv-loop μ-loop
+sub-next-span c = omega arith
 
-part-advance-start : tie.Need-part-advance-start Inv-loop μ-loop
-part-advance-start c = omega arith
+part-next-span-start : tie.Need-part-next-span-start Inv-loop μ-loop
+part-next-span-start c = omega arith
 
-part-advance-end : tie.Need-part-advance-end Inv-loop μ-loop
-part-advance-end c = omega arith
+part-next-span-end : tie.Need-part-next-span-end Inv-loop μ-loop
+part-next-span-end c = omega arith
 
-advance-requires : tie.Need-advance-requires Inv-loop μ-loop
-advance-requires c κs =
+next-span-requires : tie.Need-next-span-requires Inv-loop μ-loop
+next-span-requires c κs =
     let at-loop = c .before .before .before .before in
     let args = at-loop .before .before .before .args in
     let inv = at-loop .loop .inv in
@@ -58,7 +58,7 @@ sub-firsts c =
     let at-loop = c .before .before .before .before .before in
     let args = at-loop .before .before .before .args in
     let inv = at-loop .loop .inv in
-    let fits = work-fits _ _ (inv .1) (omega arith) (c .advance .ensures) in
+    let fits = work-fits _ _ (inv .1) (omega arith) (c .next-span .ensures) in
     fits .0
 
 mul-firsts : tie.Need-mul-firsts Inv-loop μ-loop
@@ -72,7 +72,7 @@ add-basis-values c =
     let at-loop = c .before .before .before .before .before .before in
     let args = at-loop .before .before .before .args in
     let inv = at-loop .loop .inv in
-    let fits = work-fits _ _ (inv .1) (omega arith) (c .before .advance .ensures) in
+    let fits = work-fits _ _ (inv .1) (omega arith) (c .before .next-span .ensures) in
     omega (arith, fits)
 
 mul-basis-values : tie.Need-mul-basis-values Inv-loop μ-loop
@@ -96,7 +96,7 @@ basis-values-requires c κs =
     let at-loop = c .before .before .before .before .before .before in
     let args = at-loop .before .before .before .args in
     let inv = at-loop .loop .inv in
-    let fits = work-fits _ _ (inv .1) (omega arith) (c .before .advance .ensures) in
+    let fits = work-fits _ _ (inv .1) (omega arith) (c .before .next-span .ensures) in
     let h = row-in (at-loop .loop .k) (args .count) (args .degree + 1) (omega arith) in
     (omega (arith, fits), omega (arith, fits), omega (arith, h, inv .1 .long))
 
@@ -111,7 +111,7 @@ loop-again c =
     let at-loop = c .before .before .before .before .before .before .before .before .before in
     let args = at-loop .before .before .before .args in
     let inv = at-loop .loop .inv in
-    (omega arith, work-next (c .before .before .before .before .advance .result) _ (inv .1) (omega arith) (omega arith) (omega arith) (omega arith) (omega arith) (omega arith) (c .before .before .before .before .advance .ensures) (c .before .before .basis-values .ensures))
+    (omega arith, work-next (c .before .before .before .before .next-span .result) _ (inv .1) (omega arith) (omega arith) (omega arith) (omega arith) (omega arith) (omega arith) (c .before .before .before .before .next-span .ensures) (c .before .before .basis-values .ensures))
 
 same-length : tie.Need-same-length Inv-loop μ-loop
 same-length c = c .before .loop .inv .1 .long
@@ -136,11 +136,11 @@ fill-rows-spec =
     add-t
     mul-t
     slice-read-t
-    mul-advance
-    sub-advance
-    part-advance-start
-    part-advance-end
-    advance-requires
+    mul-next-span
+    sub-next-span
+    part-next-span-start
+    part-next-span-end
+    next-span-requires
     sub-firsts
     mul-firsts
     slice-write-firsts
