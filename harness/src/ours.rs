@@ -153,7 +153,7 @@ pub struct Lines {
     pub across: usize,
 }
 
-/// One direction's work and index: parameters, flat knots, the table's values, the row poles of columns, the band, the poles, the deviations,
+/// One direction's work and index: parameters, flat knots, the table's values, the row poles of columns, the band, the poles, the squares of the deviations,
 /// with guard places between the regions and behind the last.
 pub struct Work {
     pub work: Vec<f64>,
@@ -258,7 +258,7 @@ impl Work {
         })
     }
 
-    /// The largest deviation, and how many are NaN; the deviations stand in `deviations()`.
+    /// The largest deviation, and how many are NaN; `deviations()` are the roots of the squares that it leaves.
     pub fn measure(&mut self, points: &[f64]) -> (f64, usize) {
         let (from, to) = (self.out, self.out + self.count);
         let mut most = [GUARD; 2];
@@ -282,9 +282,14 @@ impl Work {
         (most[0], unreadable)
     }
 
-    pub fn deviations(&self) -> &[f64] {
-        &self.work[self.out..self.out + self.count]
+    pub fn deviations(&self) -> Vec<f64> {
+        roots(&self.work[self.out..self.out + self.count])
     }
+}
+
+/// The deviations of squares that stand in a work: the machine's root is the one that `roots` holds beside ours.
+fn roots(squares: &[f64]) -> Vec<f64> {
+    squares.iter().map(|s| s.sqrt()).collect()
 }
 
 /// The whole grid against the surface that the columns' fit of `u` gives, with the table of `v`: each row's deviation, the largest, and how many are NaN.
@@ -310,7 +315,7 @@ pub fn grid_deviations(u: &Work, v: &Work, points: &[f64]) -> (Vec<f64>, f64, us
     };
     assert!(most[1] == GUARD && work[out + u.count] == GUARD);
     assert!(before[..curve].iter().zip(&work).all(|(a, b)| a.to_bits() == b.to_bits()), "a place outside the region was written");
-    (work[out..out + u.count].to_vec(), most[0], unreadable)
+    (roots(&work[out..out + u.count]), most[0], unreadable)
 }
 
 /// The four ladder calls by their numbers.

@@ -94,7 +94,7 @@ impl Tally {
         let (largest, unreadable) = work.measure(&places);
         let count = theirs.iter().filter(|d| d.is_nan()).count();
         self.unreadable += count as u64;
-        self.tell("ladder deviations", all_same(&theirs, work.deviations()) && same(largest, fold(&theirs)) && unreadable == count);
+        self.tell("ladder deviations", all_same(&theirs, &work.deviations()) && same(largest, fold(&theirs)) && unreadable == count);
     }
 
     fn grid(&mut self, random: &mut Random) {
@@ -116,7 +116,7 @@ impl Tally {
         let count = distances.filter(|d| d.is_nan()).count();
         let (largest, unreadable) = work.measure(&places);
         self.unreadable += count as u64;
-        self.tell("row deviations", all_same(&theirs, work.deviations()) && same(largest, fold(&theirs)) && unreadable == count);
+        self.tell("row deviations", all_same(&theirs, &work.deviations()) && same(largest, fold(&theirs)) && unreadable == count);
 
         let Some(u_params) = pieces::shared_parameters(cols, rows, |r, k| grid[k * cols + r], centripetal) else { return };
         let u_degree = random.from_to(1, 25.min(rows - 1));

@@ -15,6 +15,7 @@ use Rattle.places.proofs.RegionLaws.{length-part, part-splice}
 use Rattle.geometry.specs.declared.Point.{Point}
 use Rattle.knots.specs.Knots.{averagedKnots, approximationKnots}
 use Rattle.knots.proofs.KnotLaws.{length-averaged, length-spread}
+use Rattle.geometry.specs.Root.{rootsOf}
 use Rattle.tables.specs.declared.Table.{Table}
 use Rattle.tables.specs.declared.Measured.{Measured}
 use Rattle.tables.specs.BasisTable.{BasisTable, basisTable, first}
@@ -278,7 +279,7 @@ module _ (j : Job) (points w : List Float) (index : List ℕ) (has : HasJob j po
             ∙ ap (λ (x : BasisTable). d .distances x m ps) (sym table-still)
             ∙ ap (λ (v : Direction). v .distances (tableIn t w₂ index₁) m ps) (sym direction-is)
 
-        pub deviations-are : part (j .deviations) (j .deviations + t .count) w₃ ≡ d .deviations (candidateIn j points l w₃ index₁ .distances)
+        pub deviations-are : rootsOf (part (j .deviations) (j .deviations + t .count) w₃) ≡ d .deviations (candidateIn j points l w₃ index₁ .distances)
         deviations-are = g .deviations ∙ ap (λ (v : Direction). v .deviations (distancesIn j points m w₂ index₁)) direction-is ∙ ap (d .deviations) (sym distances-are)
 
     -- least squares of the job's data is the direction's
@@ -470,7 +471,6 @@ module _ (j : Job) (points w : List Float) (index : List ℕ) (has : HasJob j po
       record {
         answer = sym (ap (λ (v : Direction). fitOn v (flatIn j l wₖ)) same ∙ ap (fitOn (directionOf j points w index)) there) ∙ x .answer;
         measures = x .measures;
-        deviations = λ y z. x .deviations y z ∙ ap (λ (v : Direction). v .deviations (candidateIn j points l w′ index′ .distances)) same;
         firsts = firsts-put j points w index has l some-knots wₖ spreadOut size-spread put-spread index′ (x .firsts);
         kept = kept-put j points w index has l some-knots wₖ spreadOut size-spread put-spread w′ (x .kept);
       }

@@ -1,21 +1,26 @@
 -- Tries of pole counts one after another: a try leaves the parameters as they are, so each tests the same direction. Assumes nothing.
-use mathlib.Core.Path.{_≡_, refl, sym, _∙_, ap}
-use mathlib.Core.Bool.{Bool, true, false, cond}
+use mathlib.Core.Path.{_≡_, sym, _∙_, ap}
+use mathlib.Core.Bool.{Bool, true, false}
 use mathlib.Core.List.{List}
-use Prim.Native.Nat.{ℕ, _+_, _-_, _*_, _≤_, _<_}
+use Prim.Native.Nat.{ℕ, _+_, _-_, _≤_, _<_}
 use native.Mathlib.Omega.{arith}
 use lib.Dec.{eqb}
+use lib.ListN.{length}
 use lib.Ieee.{Float, le}
 use borrow.Author.Tests.{eq-eqb, ne-eqb}
 use Rattle.places.specs.Places.{listOf}
-use Rattle.places.specs.Regions.{part}
+use Rattle.places.proofs.PlaceLaws.{length-listOf}
+use Rattle.places.proofs.RegionLaws.{length-part}
 use Rattle.tables.specs.declared.Measured.{Measured}
-use Rattle.geometry.specs.Doubles.{at, largest}
-use Rattle.tables.specs.Deviations.{allWithin, largestWithin}
+use Rattle.geometry.specs.Doubles.{largest}
+use Rattle.geometry.specs.Root.{rootsOf}
+use Rattle.tables.specs.BasisTable.{BasisTable, basisTable, parameterCount}
+use Rattle.tables.specs.Deviations.{allWithin, largestWithin, unreadable}
 use Rattle.tables.specs.Directions.{Direction}
 use Rattle.tables.specs.Layout.{Kept}
 use Rattle.tables.specs.Measures.{measured}
 use Rattle.tables.proofs.KeptLaws.{kept-same, kept-then}
+use Rattle.tables.proofs.MeasureLaws.{ladderSquare, ladder-rooted, ladder-held}
 use Rattle.search.specs.declared.Search.{Search}
 use Rattle.search.specs.declared.Found.{Found}
 use Rattle.search.specs.declared.Found.the-variants.{At, Nothing}
@@ -27,9 +32,10 @@ use Rattle.fitting.specs.declared.Job.{Job}
 use Rattle.fitting.specs.declared.Attempt.{Attempt}
 use Rattle.fitting.specs.declared.Attempt.the-variants.{Unfitted, Fitting}
 use Rattle.fitting.specs.declared.Reached.the-variants.{Missed, Met}
-use Rattle.fitting.specs.Within.{Marked, spread, fitOnSpread, candidatePasses, passesOnSpread, spreadOr, foundOr, fitOnSpreadKnots}
-use Rattle.fitting.specs.Jobs.{deviationsBy, withinBy, directionOf, candidateIn, attempted, HasJob, AttemptsSpread, Tested, FewestFound, spreadIn, SpreadsBelow}
+use Rattle.fitting.specs.Within.{Marked, candidate, tableOn, spread, fitOnSpread, candidatePasses, passesOnSpread, spreadOr, foundOr, fitOnSpreadKnots}
+use Rattle.fitting.specs.Jobs.{distancesBy, withinBy, directionOf, flatIn, polesIn, candidateIn, attempted, HasJob, AttemptsSpread, Tested, FewestFound, spreadIn, SpreadsBelow}
 use Rattle.fitting.proofs.AttemptLaws.{has-job-kept, direction-kept, kept-to-fresh, spread-knots, missed, met}
+use Rattle.fitting.proofs.DeviationLaws.{all-unread, all-largest}
 
 -- ---- one count's test, from what the attempt at it came to
 module _ (j : Job) (points : List Float) (tolerance : Float) (m : ℕ) (w w′ : List Float) (index index′ : List ℕ) (r : Attempt)
@@ -57,10 +63,48 @@ module _ (j : Job) (points : List Float) (tolerance : Float) (m : ℕ) (w w′ :
         kept = x .kept;
       }
 
-  pub tested-ladder : j .given .kind ≡ 0 → (y : Measured) → r ≡ Fitting y → (b : Bool) → b ≡ allWithin tolerance (part (j .deviations) (j .deviations + j .table .count) w′)
-      → Tested j points tolerance m w w′ index index′ b
-  unfolding directionOf deviationsBy withinBy
-  tested-ladder z y e b p = tested-by y e b (rw (eq-eqb _ _ z) (p ∙ ap (allWithin tolerance) (rw (eq-eqb _ _ z) at (x .deviations y e))))
+  -- a ladder's, by the measures: its distances are roots, and there is one
+  module _ (has : HasJob j points w index) (z : j .given .kind ≡ 0) (y : Measured) (e : r ≡ Fitting y) where
+    abbrev l : ℕ
+    l = m + j .table .degree + 1
+
+    abbrev table : BasisTable
+    table = tableOn (directionOf j points w′ index′) (flatIn j l w′)
+
+    abbrev squares : List Float
+    squares = listOf (parameterCount table) (ladderSquare table (polesIn j l w′) points)
+
+    distances-rooted : candidateIn j points l w′ index′ .distances ≡ rootsOf squares
+    unfolding candidateIn candidate directionOf distancesBy
+    distances-rooted = rw (eq-eqb _ _ z) (ladder-rooted _ _ points)
+
+    counted : parameterCount table ≡ j .table .count
+    unfolding basisTable directionOf
+    counted =
+        length-listOf _ _
+        ∙ length-part (j .params) (j .params + j .table .count) w′ (omega (arith, x .kept .long, has .given .inside, has .params-in))
+        ∙ omega arith
+
+    some-squares : 1 ≤ length squares
+    some-squares = omega (arith, length-listOf (parameterCount table) (ladderSquare table (polesIn j l w′) points), counted, has .under)
+
+    pub tested-unread : (y .unreadable ≡ 0 → ⊥) → (b : Bool) → b ≡ eqb (y .unreadable) 0 → Tested j points tolerance m w w′ index index′ b
+    unfolding withinBy measured
+    tested-unread u b p =
+        let told : y .unreadable ≡ unreadable (candidateIn j points l w′ index′ .distances) = ap (λ (v : Measured). v .unreadable) (x .measures y e) in
+        tested-by y e b (rw (eq-eqb _ _ z) (p ∙ ne-eqb (y .unreadable) 0 u ∙ sym (all-unread tolerance _ (λ v. u (told ∙ v)))))
+
+    pub tested-ladder : y .unreadable ≡ 0 → (b : Bool) → b ≡ le (y .largest) tolerance → Tested j points tolerance m w w′ index index′ b
+    unfolding withinBy measured
+    tested-ladder u b p =
+        let told : y ≡ measured (rootsOf squares) = x .measures y e ∙ ap measured distances-rooted in
+        let none : unreadable (rootsOf squares) ≡ 0 = sym (ap (λ (v : Measured). v .unreadable) told) ∙ u in
+        tested-by y e b
+        (rw (eq-eqb _ _ z)
+        (p
+        ∙ ap (λ (v : Measured). le (v .largest) tolerance) told
+        ∙ all-largest tolerance squares (ladder-held table (polesIn j l w′) points _) some-squares none
+        ∙ ap (allWithin tolerance) (sym distances-rooted)))
 
   pub tested-grid : (j .given .kind ≡ 0 → ⊥) → (y : Measured) → r ≡ Fitting y → (b : Bool) → b ≡ le (y .largest) tolerance → Tested j points tolerance m w w′ index index′ b
   unfolding withinBy largestWithin measured

@@ -1,22 +1,17 @@
 -- Measuring a fit that stands in its job's regions, by the kind of its data. Assumes nothing.
 use mathlib.Core.Path.{_≡_, refl, sym, _∙_, ap, subst}
 use mathlib.Core.List.{List}
-use Prim.Native.Nat.{ℕ, _+_, _-_, _*_, _≤_, _<_}
+use Prim.Native.Nat.{ℕ, _+_, _*_, _≤_}
 use native.Mathlib.Omega.{arith}
 use lib.ListN.{length}
 use lib.Ieee.{Float}
 use borrow.Author.Tests.{eq-eqb, ne-eqb}
-use Rattle.places.specs.Places.{listOf}
-use Rattle.places.specs.Regions.{part, splice}
-use Rattle.places.proofs.PlaceLaws.{length-listOf}
-use Rattle.places.proofs.RegionLaws.{part-splice}
-use Rattle.geometry.specs.Doubles.{at, largest}
+use Rattle.places.specs.Regions.{part}
 use Rattle.tables.specs.declared.Measured.{Measured}
 use Rattle.tables.specs.Deviations.{ladderDistances, rowDistances}
 use Rattle.tables.specs.Layout.{tableIn, HasTable, HasFit}
-use Rattle.tables.specs.Measures.{measured, HasGrid, GridMeasured, gridDistancesIn}
-use Rattle.tables.proofs.ReadingLaws.{count-in}
-use Rattle.tables.proofs.KeptLaws.{kept-splice, kept-wider}
+use Rattle.tables.specs.Measures.{measured, HasGrid, LeavesSquares, pointDeviations, columnDeviations, rowDeviations, gridDistancesIn}
+use Rattle.tables.proofs.KeptLaws.{kept-wider}
 use Rattle.fitting.specs.declared.Job.{Job}
 use Rattle.fitting.specs.Jobs.{directionOf, distancesBy, deviationsBy, distancesIn, HasJob, Measures}
 use Rattle.fitting.proofs.AttemptLaws.{lines-fewer}
@@ -50,26 +45,13 @@ module _ (j : Job) (points w : List Float) (index : List ℕ) (has : HasJob j po
         let z : 3 * (j .given .lines * m) ≡ 3 * m = rw one (omega arith) in
         rw (eq-eqb _ _ e) (ap (λ (n : ℕ). ladderDistances (tableIn (j .table) w index) (part (j .poles) (j .poles + n) w) points) z)
 
-    ladder-long : length ladderOnes ≡ j .deviations + j .table .count - j .deviations
-    unfolding ladderDistances
-    ladder-long = length-listOf _ _ ∙ count-in (j .table) w index (table .firsts-in) ∙ omega arith
-
-    pub measures-ladder : (w′ : List Float) (r : Measured) → r ≡ measured ladderOnes → w′ ≡ splice (j .deviations) (j .deviations + j .table .count) ladderOnes w
-        → Measures j points m w w′ index r
+    pub measures-ladder : (w′ : List Float) (r : Measured) → LeavesSquares (j .table .count) (j .deviations) (j .deviations) pointDeviations ladderOnes w w′ r → Measures j points m w w′ index r
     unfolding directionOf deviationsBy
-    measures-ladder w′ r p q =
-        let size : length ladderOnes ≡ j .deviations + j .table .count - j .deviations = ladder-long in
-        record {
-          measures = p ∙ ap measured (sym ladder-distances);
-          deviations =
-              rw (eq-eqb _ _ e)
-              (ap (part (j .deviations) (j .deviations + j .table .count)) q
-              ∙ part-splice (j .deviations) (j .deviations + j .table .count) ladderOnes w (omega arith) (measures-fit .room) size
-              ∙ sym ladder-distances);
-          kept =
-              kept-wider (j .deviations) (j .deviations + j .table .count) (j .curve) (j .deviations + j .table .count) w w′ (has .curve-in) (omega arith)
-              (rw q (kept-splice (j .deviations) (j .deviations + j .table .count) ladderOnes w (omega arith) (measures-fit .room) size));
-        }
+    measures-ladder w′ r x = record {
+      measures = x .measures ∙ ap measured (sym ladder-distances);
+      deviations = rw (eq-eqb _ _ e) (x .deviations ∙ sym ladder-distances);
+      kept = kept-wider (j .deviations) (j .deviations + j .table .count) (j .curve) (j .deviations + j .table .count) w w′ (has .curve-in) (omega arith) (x .kept);
+    }
 
   -- a grid's rows
   module _ (e : j .given .kind ≡ 1) where
@@ -79,29 +61,19 @@ module _ (j : Job) (points w : List Float) (index : List ℕ) (has : HasJob j po
     abbrev rowOnes : List Float
     rowOnes = rowDistances (j .given .lines) (tableIn (j .table) w index) m placed points
 
-    abbrev rowLargest : List Float
-    rowLargest = listOf (j .table .count) (λ (k : ℕ). largest (listOf (j .given .lines) (λ (i : ℕ). at rowOnes (i * j .table .count + k))))
-
     row-distances : distancesIn j points m w index ≡ rowOnes
     unfolding directionOf distancesBy
     row-distances = rw (ne-eqb (j .given .kind) 0 (λ z. omega arith), eq-eqb _ _ e) refl
 
-    pub measures-rows : (w′ : List Float) (r : Measured) → r ≡ measured rowOnes → w′ ≡ splice (j .deviations) (j .deviations + j .table .count) rowLargest w
+    pub measures-rows : (w′ : List Float) (r : Measured)
+        → LeavesSquares (j .table .count) (j .deviations) (j .deviations) (columnDeviations (j .given .lines) (j .table .count)) rowOnes w w′ r
         → Measures j points m w w′ index r
     unfolding directionOf deviationsBy
-    measures-rows w′ r p q =
-        let size : length rowLargest ≡ j .deviations + j .table .count - j .deviations = length-listOf _ _ ∙ omega arith in
-        record {
-          measures = p ∙ ap measured (sym row-distances);
-          deviations =
-              rw (ne-eqb (j .given .kind) 0 (λ z. omega arith), eq-eqb _ _ e)
-              (ap (part (j .deviations) (j .deviations + j .table .count)) q
-              ∙ part-splice (j .deviations) (j .deviations + j .table .count) rowLargest w (omega arith) (measures-fit .room) size
-              ∙ ap (λ (ds : List Float). listOf (j .table .count) (λ (k : ℕ). largest (listOf (j .given .lines) (λ (i : ℕ). at ds (i * j .table .count + k))))) (sym row-distances));
-          kept =
-              kept-wider (j .deviations) (j .deviations + j .table .count) (j .curve) (j .deviations + j .table .count) w w′ (has .curve-in) (omega arith)
-              (rw q (kept-splice (j .deviations) (j .deviations + j .table .count) rowLargest w (omega arith) (measures-fit .room) size));
-        }
+    measures-rows w′ r x = record {
+      measures = x .measures ∙ ap measured (sym row-distances);
+      deviations = rw (ne-eqb (j .given .kind) 0 (λ z. omega arith), eq-eqb _ _ e) (x .deviations ∙ ap (columnDeviations (j .given .lines) (j .table .count)) (sym row-distances));
+      kept = kept-wider (j .deviations) (j .deviations + j .table .count) (j .curve) (j .deviations + j .table .count) w w′ (has .curve-in) (omega arith) (x .kept);
+    }
 
   -- the columns of the row poles
   pub is-columns : (j .given .kind ≡ 0 → ⊥) → (j .given .kind ≡ 1 → ⊥) → j .given .kind ≡ 2
@@ -130,15 +102,13 @@ module _ (j : Job) (points w : List Float) (index : List ℕ) (has : HasJob j po
     column-distances = rw (ne-eqb (j .given .kind) 0 (λ z. omega arith), ne-eqb (j .given .kind) 1 (λ z. omega arith)) refl
 
     pub measures-columns : (w′ : List Float) (r : Measured)
-        → GridMeasured (j .table .count) (j .other .count) (j .curve) (j .deviations) (gridDistancesIn (j .table) (j .other) (j .given .lines) m (j .poles) points w index) w w′ r
+        → LeavesSquares (j .table .count) (j .curve) (j .deviations) (rowDeviations (j .table .count) (j .other .count)) (gridDistancesIn (j .table) (j .other) (j .given .lines) m (j .poles) points w index) w w′ r
         → Measures j points m w w′ index r
     unfolding directionOf deviationsBy
-    measures-columns w′ r x =
-        record {
-          measures = x .measures ∙ ap measured (sym column-distances);
-          deviations =
-              rw (ne-eqb (j .given .kind) 0 (λ z. omega arith), ne-eqb (j .given .kind) 1 (λ z. omega arith))
-              (x .deviations
-              ∙ ap (λ (ds : List Float). listOf (j .table .count) (λ (i : ℕ). largest (listOf (j .other .count) (λ (k : ℕ). at ds (i * j .other .count + k))))) (sym column-distances));
-          kept = x .kept;
-        }
+    measures-columns w′ r x = record {
+      measures = x .measures ∙ ap measured (sym column-distances);
+      deviations =
+          rw (ne-eqb (j .given .kind) 0 (λ z. omega arith), ne-eqb (j .given .kind) 1 (λ z. omega arith))
+          (x .deviations ∙ ap (rowDeviations (j .table .count) (j .other .count)) (sym column-distances));
+      kept = x .kept;
+    }

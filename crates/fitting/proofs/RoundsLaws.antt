@@ -14,6 +14,7 @@ use Rattle.places.proofs.RegionLaws.{length-part, part-splice}
 use Rattle.geometry.specs.Doubles.{largest}
 use Rattle.knots.specs.Knots.{bezierKnots}
 use Rattle.knots.proofs.KnotLaws.{length-bezier}
+use Rattle.geometry.specs.Root.{rootsOf}
 use Rattle.tables.specs.declared.Measured.{Measured}
 use Rattle.tables.specs.Deviations.{largestWithin}
 use Rattle.tables.specs.Directions.{Direction}
@@ -209,7 +210,7 @@ module _ (j : Job) (points w : List Float) (index : List ℕ) (has : HasJob j po
       turn-regions = subst (λ (n : ℕ). RoundRegions n (j .params) (j .deviations) (j .flat) (j .fresh) l (j .table .degree) (length w₁)) (sym count-is) regions
 
       abbrev splitting : ℕ → Option (List Float)
-      splitting n = refinedKnots (part (j .params) (j .params + n) w₁) firsts (part (j .deviations) (j .deviations + n) w₁) (y .largest) t (j .table .degree) (part (j .flat) (j .flat + l) w₁)
+      splitting n = refinedKnots (part (j .params) (j .params + n) w₁) firsts (rootsOf (part (j .deviations) (j .deviations + n) w₁)) (y .largest) t (j .table .degree) (part (j .flat) (j .flat + l) w₁)
 
       splitting-is : splitting (j .table .count) ≡ refinedKnots (d .params) (tableOn d flat .firsts) (d .deviations (f .distances)) (largest (f .distances)) t (d .degree) flat
       unfolding directionOf flatIn
@@ -218,8 +219,8 @@ module _ (j : Job) (points w : List Float) (index : List ℕ) (has : HasJob j po
           kept-part (j .table .values) (j .deviations + j .table .count) w w₁ (x .kept) (j .params) (j .params + j .table .count) (omega arith) (omega (arith, has .params-in, has .flat-in)) in
           let q : part (j .flat) (j .flat + l) w₁ ≡ flat =
           kept-part (j .table .values) (j .deviations + j .table .count) w w₁ (x .kept) (j .flat) (j .flat + l) (omega arith) (omega (arith, knots .most, has .flat-in)) in
-          ap (λ (v : List Float). refinedKnots v firsts (part (j .deviations) (j .deviations + j .table .count) w₁) (y .largest) t (j .table .degree) (part (j .flat) (j .flat + l) w₁)) p
-          ∙ ap (λ (v : List ℕ). refinedKnots (d .params) v (part (j .deviations) (j .deviations + j .table .count) w₁) (y .largest) t (j .table .degree) (part (j .flat) (j .flat + l) w₁)) firsts-are
+          ap (λ (v : List Float). refinedKnots v firsts (rootsOf (part (j .deviations) (j .deviations + j .table .count) w₁)) (y .largest) t (j .table .degree) (part (j .flat) (j .flat + l) w₁)) p
+          ∙ ap (λ (v : List ℕ). refinedKnots (d .params) v (rootsOf (part (j .deviations) (j .deviations + j .table .count) w₁)) (y .largest) t (j .table .degree) (part (j .flat) (j .flat + l) w₁)) firsts-are
           ∙ ap (λ (v : List Float). refinedKnots (d .params) (tableOn d flat .firsts) v (y .largest) t (j .table .degree) (part (j .flat) (j .flat + l) w₁)) (x .deviations y refl)
           ∙ ap (λ (v : Float). refinedKnots (d .params) (tableOn d flat .firsts) (d .deviations (f .distances)) v t (j .table .degree) (part (j .flat) (j .flat + l) w₁)) most-is
           ∙ ap (refinedKnots (d .params) (tableOn d flat .firsts) (d .deviations (f .distances)) (largest (f .distances)) t (j .table .degree)) q

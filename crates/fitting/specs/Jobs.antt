@@ -10,6 +10,7 @@ use lib.Ieee.{Float}
 use Rattle.places.specs.Places.{listOf}
 use Rattle.places.specs.Regions.{part, splice}
 use Rattle.geometry.specs.Doubles.{at, largest}
+use Rattle.geometry.specs.Root.{rootsOf}
 use Rattle.tables.specs.declared.Measured.{Measured}
 use Rattle.tables.specs.BasisTable.{BasisTable}
 use Rattle.tables.specs.Deviations.{ladderDistances, rowDistances, gridDistances, allWithin, largestWithin}
@@ -57,7 +58,7 @@ directionOf j points work index =
       within = withinBy (j .given .kind);
     }
 
--- for columns: the other direction's table stands before all that is written, and the deviations behind a curve's poles
+-- for columns: the other direction's table stands before all that is written, and the deviations' squares behind a curve's poles
 pub record HasOther (j : Job) (points work : List Float) (index : List ℕ) : Type 0 where
   pub table : HasTable (j .other) (j .given .lines) work index
   pub values-in : j .other .values + j .other .count * (j .other .degree + 1) ≤ j .flat
@@ -65,7 +66,8 @@ pub record HasOther (j : Job) (points work : List Float) (index : List ℕ) : Ty
   pub points-in : 3 * (j .table .count * j .other .count) ≤ length points
   pub behind : j .deviations ≡ j .curve + 3 * j .given .lines
 
--- the regions, in this order: parameters and data, flat knots, basis values, band, poles, a curve's poles, deviations, new knots; and the first poles in the index
+-- the regions, in this order: parameters and data, flat knots, basis values, band, poles, a curve's poles, the deviations' squares, new knots; and the first
+-- poles in the index
 pub record HasJob (j : Job) (points work : List Float) (index : List ℕ) : Type 0 where
   pub low : 1 ≤ j .table .degree
   pub high : j .table .degree ≤ 25
@@ -106,10 +108,10 @@ abbrev pub distancesIn : Job → List Float → ℕ → List Float → List ℕ 
 distancesIn j points m work index =
     directionOf j points work index .distances (tableIn (j .table) work index) m (part (j .poles) (j .poles + 3 * (j .given .lines * m)) work)
 
--- What measuring them leaves: what the distances measure, and the deviations in their place.
+-- What measuring them leaves: what the distances measure, and the squares of the deviations in their place.
 pub record Measures (j : Job) (points : List Float) (m : ℕ) (w w′ : List Float) (index : List ℕ) (r : Measured) : Type 0 where
   pub measures : r ≡ measured (distancesIn j points m w index)
-  pub deviations : part (j .deviations) (j .deviations + j .table .count) w′ ≡ directionOf j points w index .deviations (distancesIn j points m w index)
+  pub deviations : rootsOf (part (j .deviations) (j .deviations + j .table .count) w′) ≡ directionOf j points w index .deviations (distancesIn j points m w index)
   pub kept : Kept (j .curve) (j .deviations + j .table .count) w w′
 
 -- what stands in the slices where an attempt gave a fit
@@ -117,21 +119,19 @@ unfoldable pub attempted : Attempt → Candidate → Option Candidate
 attempted Unfitted f = none
 attempted (Fitting x) f = some f
 
--- What least squares on the l flat knots that stand there leaves: no fit; or a fit, which stands there, with its deviations and what they measure.
+-- What least squares on the l flat knots that stand there leaves: no fit; or a fit, which stands there, with its deviations' squares and what its distances measure.
 pub record Attempts (j : Job) (points : List Float) (l : ℕ) (w w′ : List Float) (index index′ : List ℕ) (r : Attempt) : Type 0 where
   pub answer : fitOn (directionOf j points w index) (flatIn j l w) ≡ attempted r (candidateIn j points l w′ index′)
   pub measures : (x : Measured) → r ≡ Fitting x → x ≡ measured (candidateIn j points l w′ index′ .distances)
   pub deviations : (x : Measured) → r ≡ Fitting x
-      → part (j .deviations) (j .deviations + j .table .count) w′ ≡ directionOf j points w index .deviations (candidateIn j points l w′ index′ .distances)
+      → rootsOf (part (j .deviations) (j .deviations + j .table .count) w′) ≡ directionOf j points w index .deviations (candidateIn j points l w′ index′ .distances)
   pub firsts : index′ ≡ splice (j .table .firsts) (j .table .firsts + j .table .count) (tableOn (directionOf j points w index) (flatIn j l w) .firsts) index
   pub kept : Kept (j .table .values) (j .deviations + j .table .count) w w′
 
--- What least squares on the spread knots of m poles leaves: the same, beside those knots.
+-- What least squares on the spread knots of m poles leaves: no fit; or a fit on those knots, which stands there, with what its distances measure.
 pub record AttemptsSpread (j : Job) (points : List Float) (m : ℕ) (w w′ : List Float) (index index′ : List ℕ) (r : Attempt) : Type 0 where
   pub answer : fitOnSpread (directionOf j points w index) m ≡ attempted r (candidateIn j points (m + j .table .degree + 1) w′ index′)
   pub measures : (x : Measured) → r ≡ Fitting x → x ≡ measured (candidateIn j points (m + j .table .degree + 1) w′ index′ .distances)
-  pub deviations : (x : Measured) → r ≡ Fitting x
-      → part (j .deviations) (j .deviations + j .table .count) w′ ≡ directionOf j points w index .deviations (candidateIn j points (m + j .table .degree + 1) w′ index′ .distances)
   pub firsts : Kept (j .table .firsts) (j .table .firsts + j .table .count) index index′
   pub kept : Kept (j .flat) (j .deviations + j .table .count) w w′
 
@@ -173,7 +173,7 @@ pub record RefinesWithin (j : Job) (points : List Float) (tolerance : Float) (w 
   pub answer : fitWithRefinedKnots (directionOf j points w index) tolerance ≡ refinedIn r (λ (l : ℕ). candidateIn j points l w′ index′)
   pub reaches : Reaches j points w w′ index index′ r
 
--- What the test of a pole count on spread knots leaves: only knots, table, band, poles and deviations were written.
+-- What the test of a pole count on spread knots leaves: only knots, table, band, poles and the deviations' squares were written.
 pub record Tested (j : Job) (points : List Float) (tolerance : Float) (m : ℕ) (w w′ : List Float) (index index′ : List ℕ) (r : Bool) : Type 0 where
   pub answer : r ≡ passesOnSpread (directionOf j points w index) tolerance m
   pub firsts : Kept (j .table .firsts) (j .table .firsts + j .table .count) index index′

@@ -9,7 +9,7 @@ use tables::deviations::grid_deviations;
 use tables::deviations::ladder_deviations;
 use tables::deviations::row_deviations;
 
-// The points against the fit of m poles a line that stands in the work: each parameter's deviation in its place, by the kind of the data.
+// The points against the fit of m poles a line that stands in the work: the square of each parameter's deviation in its place, by the kind of the data.
 fn measure(work: &mut [f64], index: &[usize], points: &[f64], job: Job, m: usize) -> Measured
     requires { ⌜ HasJob job (now points) (now work) (now index) × (HasTable (job .table) m (now work) (now index) × (m ≤ job .table .count)) ⌝ }
     ensures { λ r. ⌜ Measures job (now (points .entry)) m (now (work .entry)) (now (work .exit)) (now (index .entry)) r ⌝ }

@@ -8,7 +8,7 @@ use search::Found;
 use search::Next;
 use search::Search;
 
-// Document 01's test of a pole count on spread knots.
+// Document 01's test of a pole count on spread knots. A ladder's distances are all at most the tolerance where none is NaN and the largest is.
 pub fn passes(
     work: &mut [f64],
     index: &mut [usize],
@@ -20,13 +20,11 @@ pub fn passes(
     requires { ⌜ HasJob job (now points) (now work) (now index) × (job .table .degree < m) × (m ≤ job .table .count) ⌝ }
     ensures { λ r. ⌜ Tested job (now (points .entry)) tolerance m (now (work .entry)) (now (work .exit)) (now (index .entry)) (now (index .exit)) r ⌝ }
 {
-    let start = job.deviations;
-    let end = start + job.table.count;
     match crate::attempts::attempt_spread(work, index, points, job, m) {
         Attempt::Unfitted => false,
         Attempt::Fitting(x) => {
             if job.given.kind == tables::LADDER {
-                tables::deviations::all_within(&work[start..end], tolerance)
+                x.unreadable == 0 && x.largest <= tolerance
             } else {
                 x.largest <= tolerance
             }

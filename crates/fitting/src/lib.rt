@@ -72,7 +72,7 @@ pub struct Room {
 }
 
 // The fitting of one direction in the lent slices: its table and data, for columns the table of the other direction, and where the work holds its
-// parameters, its flat knots, the band, the poles, for columns a curve's poles, the deviations and new knots.
+// parameters, its flat knots, the band, the poles, for columns a curve's poles, the deviations by their squares, and new knots.
 pub struct Job {
     pub table: Table,
     pub given: Data,

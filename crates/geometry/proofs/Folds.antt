@@ -12,7 +12,7 @@ use lib.Ieee.{Float, nan, lt, le, isNan, ofBits}
 use Rattle.places.specs.Places.{listOf}
 use Rattle.places.proofs.PlaceLaws.{listOf-more}
 use Rattle.geometry.specs.Doubles.{nought, larger, largestFrom, largest}
-use Rattle.geometry.proofs.FloatOrder.{le-trans-float, le-not-lt, lt-or-le, lt-le, le-left, le-right, le-lt-trans, lt-le-trans, le-self, holds, test, fails, refute}
+use Rattle.geometry.proofs.FloatOrder.{le-trans-float, le-not-lt, lt-or-le, lt-le, le-right, le-lt-trans, lt-le-trans, le-self, holds, test, fails, refute}
 
 -- no value of the list is above t
 abbrev pub Each : Float → List Float → Type 0
@@ -50,7 +50,7 @@ le-largestFrom a (d ∷ ds) t h e = le-largestFrom (larger a d) ds t (le-larger 
 
 -- ---- a fold in pieces
 
-larger-first : (a d : Float) → T (not (isNan a)) → T (le a (larger a d))
+pub larger-first : (a d : Float) → T (not (isNan a)) → T (le a (larger a d))
 unfolding larger
 larger-first a d n = go (lt a d) refl
   where
@@ -91,18 +91,13 @@ nested-from a (r ∷ rows) h =
     ∙ nested-from (largestFrom a r) rows (le-trans-float nought a (largestFrom a r) h (from-first a r (le-right nought a h)))
     ∙ sym (from-append a r (flatten rows))
 
-zero-le-zero : T (le nought nought)
+pub zero-le-zero : T (le nought nought)
 unfolding le ofBits
 zero-le-zero = tt
 
 pub nested-largest : (rows : List (List Float)) → largest (map largest rows) ≡ largest (flatten rows)
 unfolding largest
 nested-largest rows = nested-from nought rows zero-le-zero
-
--- at least the 0 that it starts from
-pub largest-from-zero : (ds : List Float) → T (le nought (largest ds))
-unfolding largest
-largest-from-zero ds = from-first nought ds (le-left nought nought zero-le-zero)
 
 pub largest-step : (a : Float) (ds : List Float) (k : ℕ) → k < length ds → largestFrom a (drop k ds) ≡ largestFrom (larger a (getD ds k nan)) (drop (k + 1) ds)
 unfolding largestFrom

@@ -6,6 +6,7 @@ pub mod PointLaws
 pub mod SortLaws
 pub mod Correct
 pub mod RootOrder
+pub mod Roots
 pub mod Examples
 pub mod Whole
 mod Steps

@@ -1,27 +1,23 @@
--- The root grows with the number: the larger of two roots is the root of the larger number, so one root serves a whole list. Assumes nothing.
+-- The root grows with the number: the larger of two roots is the root of the larger number, so one root serves a whole list (`Roots`). Assumes nothing.
 use mathlib.Core.Path.{_≡_, refl, sym, ap, _∙_, subst}
 use mathlib.Core.Logic.{_⊎_, inl, inr}
 use mathlib.Core.Bool.{Bool, true, false, not, _||_, cond}
 use Prim.Native.Nat.{ℕ, zero, suc, _+_, _-_, _*_, _/_, _^_, _≤_, _<_}
 use native.Mathlib.Nat.{lt-of-not-le, zero-lt-suc, mul-pos, mul-le-mul-right, le-of-mul-le-mul-right, eq-zero-or-pos}
-use native.Mathlib.Numerals.{add-one}
 use native.Mathlib.Omega.{arith}
 use native.Mathlib.Decide.{decLe}
 use lib.IntN.{ℤ, pos, negsuc}
 use lib.Dec.{T, ltb, ltb→lt, lt→ltb, lit<}
 use lib.Pow.{pow-pos}
 use lib.Ieee.{Float, nan, inf, fin, binary64, up, down, size, odd, units, below, level, lt, le, isNan, ofBits, fits}
-use lib.Ieee.Bits.{ofBits-fits}
-use lib.Ieee.Fits.{up-pos, down-pos, cond-fits}
+use lib.Ieee.Fits.{up-pos, down-pos}
 use lib.Ieee.Order.{le-of-values}
 use lib.Ieee.Positive.{positive, positive-of-value, value-pos, values-of-le}
-use Rattle.places.specs.Places.{listOf}
-use Rattle.geometry.specs.Doubles.{nought, larger, largest}
+use Rattle.geometry.specs.Doubles.{nought, larger}
 use Rattle.geometry.specs.Root.{sqrtOf, wholeRoot, nearestRoot, rootUnits}
 use Rattle.geometry.specs.Nearest.{plain, inUnits, NearestToRoot}
 use Rattle.geometry.proofs.Correct.{correct, same-units, positive-plain, plain-value, rootUnits-is}
 use Rattle.geometry.proofs.FloatOrder.{le-not-lt, lt-or-le, lt-le, le-trans-float, holds, test, fails, not-above}
-use Rattle.geometry.proofs.Folds.{largest-none, largest-more, largest-from-zero}
 
 -- ---- two positive finite numbers: the units of the roots are ordered as those of the numbers
 clash : (r s x y : ℕ) → x ≤ y → (r + s) * (r + s) < 4 * x → 4 * y < (s + r) * (s + r) → ⊥
@@ -180,7 +176,7 @@ root-nan (fin true (suc m) e) = ap not (sym (fails (le nought (fin true (suc m) 
 root-nan (fin false (suc m) e) = root-number (suc m * up e * 2 ^ 2148 / down e) ∙ ap not (sym (holds (le nought (fin false (suc m) e)) (positive-above (fin false (suc m) e) (is-positive m e))))
 
 -- ---- the larger of two roots
-root-from-zero : (a : Float) → T (fits binary64 a) → T (le nought a) → T (le nought (sqrtOf a))
+pub root-from-zero : (a : Float) → T (fits binary64 a) → T (le nought a) → T (le nought (sqrtOf a))
 unfolding sqrtOf le ofBits
 root-from-zero nan h l = absurd l
 root-from-zero (inf true) h l = absurd l
@@ -239,26 +235,3 @@ larger-T a (fin false (suc n) d) ha hs l = with-positive a (fin false (suc n) d)
 
 pub root-larger : (a s : Float) → T (fits binary64 a) → T (fits binary64 s) → le nought a ≡ true → larger (sqrtOf a) (sqrtOf s) ≡ sqrtOf (larger a s)
 root-larger a s ha hs l = larger-T a s ha hs (test l)
-
--- ---- the largest of a list's roots
-pub root-zero : sqrtOf nought ≡ nought
-unfolding sqrtOf ofBits
-root-zero = refl
-
-larger-fits : (a s : Float) → T (fits binary64 a) → T (fits binary64 s) → T (fits binary64 (larger a s))
-unfolding larger
-larger-fits a s ha hs = cond-fits binary64 (lt a s) s a hs ha
-
-module _ (g : ℕ → Float) where
-  pub largest-fits : (n : ℕ) → ((k : ℕ) → k < n → T (fits binary64 (g k))) → T (fits binary64 (largest (listOf n g)))
-  largest-fits zero h = rw largest-none (ofBits-fits binary64 0)
-  largest-fits (suc n) h = subst (λ (k : ℕ). T (fits binary64 (largest (listOf k g)))) (add-one n) (rw largest-more (larger-fits (largest (listOf n g)) (g n) (largest-fits n (λ k l. h k (omega arith))) (h n (omega arith))))
-
-  pub largest-root : (n : ℕ) → ((k : ℕ) → k < n → T (fits binary64 (g k))) → largest (listOf n (λ k. sqrtOf (g k))) ≡ sqrtOf (largest (listOf n g))
-  largest-root zero h = rw (largest-none (λ k. sqrtOf (g k)), largest-none g) (sym root-zero)
-  largest-root (suc n) h =
-      subst (λ (k : ℕ). largest (listOf k (λ k. sqrtOf (g k))) ≡ sqrtOf (largest (listOf k g))) (add-one n)
-      (largest-more n (λ k. sqrtOf (g k))
-      ∙ ap (λ (x : Float). larger x (sqrtOf (g n))) (largest-root n (λ k l. h k (omega arith)))
-      ∙ root-larger (largest (listOf n g)) (g n) (largest-fits n (λ k l. h k (omega arith))) (h n (omega arith)) (holds _ (largest-from-zero (listOf n g)))
-      ∙ ap sqrtOf (sym (largest-more n g)))

@@ -2,15 +2,13 @@
 ghost use mathlib.Core.Path.{_≡_};
 ghost use Prim.Native.Nat.{_+_, _*_, _≤_};
 ghost use lib.ListN.{length, set};
-ghost use Rattle.places.specs.Places.{listOf};
 ghost use Rattle.places.specs.Regions.{part, splice};
-ghost use Rattle.geometry.specs.Doubles.{at, largest};
 ghost use Rattle.tables.specs.BasisTable.{basisTable};
 ghost use Rattle.tables.specs.LeastSquares.{leastSquares};
 ghost use Rattle.tables.specs.Deviations.{ladderDistances, rowDistances};
 ghost use Rattle.tables.specs.Layout.{tableIn, dataPoint, FillsTable, HasSquares, Squared, HasFit};
 ghost use Rattle.tables.specs.Through.{Interpolates, Interpolated};
-ghost use Rattle.tables.specs.Measures.{measured, HasGrid, GridMeasured, gridDistancesIn};
+ghost use Rattle.tables.specs.Measures.{measured, HasGrid, LeavesSquares, pointDeviations, columnDeviations, rowDeviations, gridDistancesIn};
 ghost use Rattle.pieces.specs.Fits.{tableOf, dataOf};
 use tables::Data;
 use tables::Measured;
@@ -117,7 +115,7 @@ pub extern "C" fn pieces_interpolation(
     tables::through::interpolation(work, index, points, table, given, band, poles);
 }
 
-// The number of unreadable distances, with the largest in place 0 of `most`.
+// The number of unreadable distances, with the largest in place 0 of `most`, and the squares of the deviations from `out` on.
 #[no_mangle]
 pub extern "C" fn pieces_ladder_deviations(
     work: &mut [f64],
@@ -135,7 +133,8 @@ pub extern "C" fn pieces_ladder_deviations(
     requires { ⌜ HasFit (tableOf degree count firsts values) 1 m poles out count (now work) (now index) × (3 * count ≤ length (now points)) × (1 ≤ length (now most)) ⌝ }
     ensures { λ r. ⌜ r ≡ measured (ladderDistances (tableIn (tableOf degree count firsts values) (now (work .entry)) (now (index .entry))) (part poles (poles + 3 * m) (now (work .entry))) (now (points .entry))) .unreadable ⌝ }
     ensures { λ _. ⌜ now (most .exit) ≡ set (now (most .entry)) 0 (measured (ladderDistances (tableIn (tableOf degree count firsts values) (now (work .entry)) (now (index .entry))) (part poles (poles + 3 * m) (now (work .entry))) (now (points .entry))) .largest) ⌝ }
-    ensures { λ _. ⌜ now (work .exit) ≡ splice out (out + count) (ladderDistances (tableIn (tableOf degree count firsts values) (now (work .entry)) (now (index .entry))) (part poles (poles + 3 * m) (now (work .entry))) (now (points .entry))) (now (work .entry)) ⌝ }
+    ensures { λ _. ⌜ LeavesSquares count out out pointDeviations (ladderDistances (tableIn (tableOf degree count firsts values) (now (work .entry)) (now (index .entry))) (part poles (poles + 3 * m) (now (work .entry))) (now (points .entry))) (now (work .entry)) (now (work .exit))
+        (measured (ladderDistances (tableIn (tableOf degree count firsts values) (now (work .entry)) (now (index .entry))) (part poles (poles + 3 * m) (now (work .entry))) (now (points .entry)))) ⌝ }
 {
     let table = Table {
         degree: degree,
@@ -166,7 +165,8 @@ pub extern "C" fn pieces_row_deviations(
     requires { ⌜ HasFit (tableOf degree count firsts values) rows m poles out count (now work) (now index) × (3 * (rows * count) ≤ length (now points)) × (1 ≤ length (now most)) ⌝ }
     ensures { λ r. ⌜ r ≡ measured (rowDistances rows (tableIn (tableOf degree count firsts values) (now (work .entry)) (now (index .entry))) m (part poles (poles + 3 * (rows * m)) (now (work .entry))) (now (points .entry))) .unreadable ⌝ }
     ensures { λ _. ⌜ now (most .exit) ≡ set (now (most .entry)) 0 (measured (rowDistances rows (tableIn (tableOf degree count firsts values) (now (work .entry)) (now (index .entry))) m (part poles (poles + 3 * (rows * m)) (now (work .entry))) (now (points .entry))) .largest) ⌝ }
-    ensures { λ _. ⌜ now (work .exit) ≡ splice out (out + count) (listOf count (λ j. largest (listOf rows (λ i. at (rowDistances rows (tableIn (tableOf degree count firsts values) (now (work .entry)) (now (index .entry))) m (part poles (poles + 3 * (rows * m)) (now (work .entry))) (now (points .entry))) (i * count + j))))) (now (work .entry)) ⌝ }
+    ensures { λ _. ⌜ LeavesSquares count out out (columnDeviations rows count) (rowDistances rows (tableIn (tableOf degree count firsts values) (now (work .entry)) (now (index .entry))) m (part poles (poles + 3 * (rows * m)) (now (work .entry))) (now (points .entry))) (now (work .entry)) (now (work .exit))
+        (measured (rowDistances rows (tableIn (tableOf degree count firsts values) (now (work .entry)) (now (index .entry))) m (part poles (poles + 3 * (rows * m)) (now (work .entry))) (now (points .entry)))) ⌝ }
 {
     let table = Table {
         degree: degree,
@@ -212,7 +212,7 @@ pub extern "C" fn pieces_grid_deviations(
     requires { ⌜ HasGrid (tableOf pu nu fu wu) (tableOf pv nv fv wv) columns m poles curve out (now points) (now work) (now index) × (1 ≤ length (now most)) ⌝ }
     ensures { λ r. ⌜ r ≡ measured (gridDistancesIn (tableOf pu nu fu wu) (tableOf pv nv fv wv) columns m poles (now (points .entry)) (now (work .entry)) (now (index .entry))) .unreadable ⌝ }
     ensures { λ _. ⌜ now (most .exit) ≡ set (now (most .entry)) 0 (measured (gridDistancesIn (tableOf pu nu fu wu) (tableOf pv nv fv wv) columns m poles (now (points .entry)) (now (work .entry)) (now (index .entry))) .largest) ⌝ }
-    ensures { λ _. ⌜ GridMeasured nu nv curve out (gridDistancesIn (tableOf pu nu fu wu) (tableOf pv nv fv wv) columns m poles (now (points .entry)) (now (work .entry)) (now (index .entry))) (now (work .entry)) (now (work .exit))
+    ensures { λ _. ⌜ LeavesSquares nu curve out (rowDeviations nu nv) (gridDistancesIn (tableOf pu nu fu wu) (tableOf pv nv fv wv) columns m poles (now (points .entry)) (now (work .entry)) (now (index .entry))) (now (work .entry)) (now (work .exit))
         (measured (gridDistancesIn (tableOf pu nu fu wu) (tableOf pv nv fv wv) columns m poles (now (points .entry)) (now (work .entry)) (now (index .entry)))) ⌝ }
 {
     let u = Table {

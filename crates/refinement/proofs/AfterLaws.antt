@@ -13,6 +13,7 @@ use Rattle.places.proofs.RegionLaws.{length-part}
 use Rattle.places.proofs.PlaceLaws.{length-listOf}
 use Rattle.places.proofs.GatheredLaws.{pasted, splice-is, pasted-is, length-pasted, take-pasted, part-pasted-self, part-beside, count-most}
 use Rattle.geometry.specs.Order.{sorted, Ascending}
+use Rattle.geometry.specs.Root.{rootsOf}
 use Rattle.geometry.proofs.SortLaws.{length-sorted}
 use Rattle.refinement.specs.declared.Round.{Round}
 use Rattle.refinement.specs.declared.Round.the-variants.{Refined}
@@ -25,7 +26,7 @@ use Rattle.refinement.proofs.RoundLaws.{with-grows, refined-in, refined
 module _ (n params d f g l degree : ℕ) (ends : List ℕ) (tolerance most : Float) (w w₁ : List Float) (lent : RoundRegions n params d f g l degree (length w)) (k : length ends ≤ n)
     (e : w₁ ≡ workAfter n params d f g l degree tolerance most ends w) where
   abbrev worsts : List Float
-  worsts = spanWorsts (part d (d + n) w) ends
+  worsts = spanWorsts (rootsOf (part d (d + n) w)) ends
 
   abbrev new : List Float
   new = newIn n params d ends tolerance most w
@@ -39,7 +40,7 @@ module _ (n params d f g l degree : ℕ) (ends : List ℕ) (tolerance most : Flo
 
   worsts-long : length worsts ≡ length ends
   unfolding spanWorsts
-  worsts-long = length-listOf (length ends) (worstOf (part d (d + n) w) ends)
+  worsts-long = length-listOf (length ends) (worstOf (rootsOf (part d (d + n) w)) ends)
 
   new-few : length new ≤ n
   unfolding newKnots
@@ -114,7 +115,7 @@ module _ (n params d f g l degree : ℕ) (ends : List ℕ) (tolerance most : Flo
 -- what a round that says `Refined count` gives its caller
 pub record Refines (n params d f g l degree count : ℕ) (firsts : List ℕ) (tolerance most : Float) (w w₁ : List Float) : Type 0 where
   pub flat : List Float
-  pub knots : refinedKnots (part params (params + n) w) firsts (part d (d + n) w) most tolerance degree (part f (f + l) w) ≡ some flat
+  pub knots : refinedKnots (part params (params + n) w) firsts (rootsOf (part d (d + n) w)) most tolerance degree (part f (f + l) w) ≡ some flat
   pub long : length flat ≡ count
   pub stands : part f (f + count) w₁ ≡ flat
   pub ascending : Ascending flat
@@ -125,18 +126,18 @@ pub record Refines (n params d f g l degree count : ℕ) (firsts : List ℕ) (to
 
 pub refines : (n params d f g l degree count : ℕ) (firsts : List ℕ) (tolerance most : Float) (w w₁ : List Float) (r : Round)
     → n ≡ length firsts → RoundRegions n params d f g l degree (length w)
-    → r ≡ roundOf (refinedKnots (part params (params + n) w) firsts (part d (d + n) w) most tolerance degree (part f (f + l) w))
+    → r ≡ roundOf (refinedKnots (part params (params + n) w) firsts (rootsOf (part d (d + n) w)) most tolerance degree (part f (f + l) w))
     → w₁ ≡ workAfter n params d f g l degree tolerance most (spanEnds firsts) w
     → r ≡ Refined count
     → Refines n params d f g l degree count firsts tolerance most w w₁
 refines n params d f g l degree count firsts tolerance most w w₁ r m lent told e is =
     let fits : params + n ≤ length w = omega (arith, lent .parameters-end, lent .new) in
     let few : length (spanEnds firsts) ≤ n = omega (arith, spans-most firsts) in
-    let o = refinedKnots (part params (params + n) w) firsts (part d (d + n) w) most tolerance degree (part f (f + l) w) in
+    let o = refinedKnots (part params (params + n) w) firsts (rootsOf (part d (d + n) w)) most tolerance degree (part f (f + l) w) in
     let got = round-refined o count (sym told ∙ is) in
     let old : length (part f (f + l) w) ≡ l = length-part f (f + l) w (omega (arith, lent .knots-end, lent .new, lent .most)) ∙ omega arith in
     let all : length (part params (params + n) w) ≡ n = length-part params (params + n) w fits ∙ omega arith in
-    let more = refined-grows (part params (params + n) w) firsts (part d (d + n) w) most tolerance degree (part f (f + l) w) (got .0) (got .1) (omega (arith, lent .least)) in
+    let more = refined-grows (part params (params + n) w) firsts (rootsOf (part d (d + n) w)) most tolerance degree (part f (f + l) w) (got .0) (got .1) (omega (arith, lent .least)) in
     let stands = after-flat n params d f g l degree (spanEnds firsts) tolerance most w w₁ lent few e (got .0) (refined-in n params d f l degree firsts tolerance most w fits ∙ got .1) in
     let same = after-length n params d f g l degree (spanEnds firsts) tolerance most w w₁ lent few e in
     record {
@@ -144,7 +145,7 @@ refines n params d f g l degree count firsts tolerance most w w₁ r m lent told
       knots = got .1;
       long = got .2;
       stands = rw (got .2) at stands;
-      ascending = refined-ascending (part params (params + n) w) firsts (part d (d + n) w) most tolerance degree (part f (f + l) w) (got .0) (got .1);
+      ascending = refined-ascending (part params (params + n) w) firsts (rootsOf (part d (d + n) w)) most tolerance degree (part f (f + l) w) (got .0) (got .1);
       grows = omega (arith, more .0, got .2);
       few = omega (arith, more .1, got .2);
       params-stay = after-params n params d f g l degree (spanEnds firsts) tolerance most w w₁ lent few e;

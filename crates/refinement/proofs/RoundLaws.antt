@@ -16,6 +16,7 @@ use Rattle.places.proofs.RegionLaws.{length-part}
 use Rattle.places.proofs.PlaceLaws.{length-listOf}
 use Rattle.places.proofs.GatheredLaws.{pasted, pasted-is, splice-is, splice-front, pasted-again, part-pasted, part-pasted-self, part-beside}
 use Rattle.geometry.specs.Order.{sorted, Ascending}
+use Rattle.geometry.specs.Root.{rootsOf}
 use Rattle.geometry.proofs.SortLaws.{length-sorted, ascending-sorted}
 use Rattle.refinement.specs.declared.Round.the-variants.{Stuck, Refined}
 use Rattle.refinement.specs.Refinement.{spanEnds, worstOf, spanWorsts, thresholdOf, newKnots, withKnots, refinedKnots}
@@ -135,14 +136,14 @@ module _ (f l g count : ℕ) (new w w₁ : List Float) (k : count ≡ length new
 -- ---- from the spans' worst deviations on
 
 module _ (n params d f g l degree : ℕ) (ends : List ℕ) (tolerance most th : Float) (w w₁ : List Float) (lent : RoundRegions n params d f g l degree (length w)) (k : length ends ≤ n)
-    (e : w₁ ≡ splice d (d + n) (spanWorsts (part d (d + n) w) ends ++ drop (length ends) (part d (d + n) w)) w)
+    (e : w₁ ≡ splice d (d + n) (spanWorsts (rootsOf (part d (d + n) w)) ends ++ drop (length ends) (part d (d + n) w)) w)
     (t : th ≡ thresholdOf ends (part d (d + length ends) w₁) tolerance most) where
   abbrev worsts : List Float
-  worsts = spanWorsts (part d (d + n) w) ends
+  worsts = spanWorsts (rootsOf (part d (d + n) w)) ends
 
   long : length worsts ≡ length ends
   unfolding spanWorsts
-  long = length-listOf (length ends) (worstOf (part d (d + n) w) ends)
+  long = length-listOf (length ends) (worstOf (rootsOf (part d (d + n) w)) ends)
 
   fits : d + n ≤ length w
   fits = omega (arith, lent .deviations-end, lent .new)
@@ -185,7 +186,7 @@ module _ (n params d f g l degree : ℕ) (ends : List ℕ) (tolerance most th : 
 -- the round's knots, by where its lists stand
 pub refined-in : (n params d f l degree : ℕ) (firsts : List ℕ) (tolerance most : Float) (w : List Float) → params + n ≤ length w
     → withKnots n degree (part f (f + l) w) (newIn n params d (spanEnds firsts) tolerance most w)
-    ≡ refinedKnots (part params (params + n) w) firsts (part d (d + n) w) most tolerance degree (part f (f + l) w)
+    ≡ refinedKnots (part params (params + n) w) firsts (rootsOf (part d (d + n) w)) most tolerance degree (part f (f + l) w)
 unfolding refinedKnots
 refined-in n params d f l degree firsts tolerance most w h =
     let m : length (part params (params + n) w) ≡ n = length-part params (params + n) w h ∙ omega arith in

@@ -7,11 +7,12 @@ use lib.ListN.{length}
 use lib.Ieee.{Float}
 use Rattle.places.specs.Regions.{part, splice}
 use Rattle.geometry.specs.Order.{sorted}
+use Rattle.geometry.specs.Root.{rootsOf}
 use Rattle.refinement.specs.Refinement.{startOf, endOf, spanWorsts, knotsAt, newKnots, withKnots}
 use Rattle.refinement.specs.declared.Round.{Round}
 use Rattle.refinement.specs.declared.Round.the-variants.{Stuck, Refined}
 
--- The regions of a round over n parameters, in a work of `size` places: the parameters from `params` on, their deviations from d on, the l flat knots from
+-- The regions of a round over n parameters, in a work of `size` places: the parameters from `params` on, the squares of their deviations from d on, the l flat knots from
 -- f on with room for those of n poles, and from g on room for n new knots. The first three lie apart from each other, and before g.
 pub record RoundRegions (n params d f g l degree size : ℕ) : Type 0 where
   pub parameters : (params + n ≤ d) ⊎ (d + n ≤ params)
@@ -40,19 +41,19 @@ roundOf (some flat) = Refined (length flat)
 abbrev pub knotsIn : ℕ → ℕ → ℕ → ℕ → List ℕ → Float → Float → List Float → List Float
 knotsIn p q d e ends tolerance threshold work = knotsAt (part p q work) ends (part d e work) tolerance threshold
 
--- and at the threshold that the round takes, by the deviations from d on
+-- and at the threshold that the round takes, by the deviations, whose squares stand from d on
 abbrev pub newIn : ℕ → ℕ → ℕ → List ℕ → Float → Float → List Float → List Float
 newIn n params d ends tolerance most work =
-    newKnots (part params (params + n) work) ends (spanWorsts (part d (d + n) work) ends) tolerance most
+    newKnots (part params (params + n) work) ends (spanWorsts (rootsOf (part d (d + n) work)) ends) tolerance most
 
 -- the work with all the flat knots from place f on, and the new ones, sorted, from place g on; as it is, where there are none
 abbrev pub keeping : Option (List Float) → ℕ → ℕ → List Float → List Float → List Float
 keeping none f g new work = work
 keeping (some flat) f g new work = splice f (f + length flat) flat (splice g (g + length new) (sorted new) work)
 
--- the work after a round: the spans' worst deviations stand in the first places of the deviations
+-- the work after a round: the spans' worst deviations stand in the first places of the squares
 unfoldable pub workAfter : ℕ → ℕ → ℕ → ℕ → ℕ → ℕ → ℕ → Float → Float → List ℕ → List Float → List Float
 workAfter n params d f g l degree tolerance most ends work =
-    let worsts = spanWorsts (part d (d + n) work) ends in
+    let worsts = spanWorsts (rootsOf (part d (d + n) work)) ends in
     let new = newIn n params d ends tolerance most work in
     keeping (withKnots n degree (part f (f + l) work) new) f g new (splice d (d + length ends) worsts work)

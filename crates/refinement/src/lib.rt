@@ -4,6 +4,7 @@ ghost use mathlib.Core.List.{_++_};
 ghost use Prim.Native.Nat.{_+_, _≤_};
 ghost use lib.ListN.{length, drop};
 ghost use Rattle.places.specs.Regions.{part};
+ghost use Rattle.geometry.specs.Root.{rootsOf};
 ghost use Rattle.refinement.specs.Refinement.{spanEnds, withKnots, refinedKnots};
 ghost use Rattle.refinement.specs.Round.{RoundRegions, Rising, Within, roundOf, knotsIn, newIn, keeping, workAfter};
 
@@ -59,7 +60,7 @@ fn insert_knots(
     Round::Refined(l + count)
 }
 
-// The round on spans that are known: their worst deviations take the places of the deviations.
+// The round on spans that are known: their worst deviations take the places of the squares.
 fn refine_spans(
     work: &mut [f64],
     ends: &[usize],
@@ -97,7 +98,7 @@ fn refine_spans(
     )
 }
 
-// One round. The ends of the spans take the places of the first poles, the spans' worst deviations those of the deviations.
+// One round, by the squares of the deviations from d on. The ends of the spans take the places of the first poles, the spans' worst deviations those of the squares.
 pub fn refine(
     work: &mut [f64],
     firsts: &mut [usize],
@@ -111,7 +112,7 @@ pub fn refine(
     most: f64,
 ) -> Round
     requires { ⌜ RoundRegions (length (now firsts)) params d f g l degree (length (now work)) ⌝ }
-    ensures { λ r. ⌜ r ≡ roundOf (refinedKnots (part params (params + length (now (firsts .entry))) (now (work .entry))) (now (firsts .entry)) (part d (d + length (now (firsts .entry))) (now (work .entry))) most tolerance degree (part f (f + l) (now (work .entry)))) ⌝ }
+    ensures { λ r. ⌜ r ≡ roundOf (refinedKnots (part params (params + length (now (firsts .entry))) (now (work .entry))) (now (firsts .entry)) (rootsOf (part d (d + length (now (firsts .entry))) (now (work .entry)))) most tolerance degree (part f (f + l) (now (work .entry)))) ⌝ }
     ensures { λ _. ⌜ now (work .exit) ≡ workAfter (length (now (firsts .entry))) params d f g l degree tolerance most (spanEnds (now (firsts .entry))) (now (work .entry)) ⌝ }
     ensures { λ _. ⌜ now (firsts .exit) ≡ spanEnds (now (firsts .entry)) ++ drop (length (spanEnds (now (firsts .entry)))) (now (firsts .entry)) ⌝ }
 {

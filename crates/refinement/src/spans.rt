@@ -3,6 +3,7 @@ ghost use mathlib.Core.Path.{_≡_};
 ghost use mathlib.Core.List.{_++_};
 ghost use Prim.Native.Nat.{ℕ, _≤_, _<_};
 ghost use lib.ListN.{length, drop};
+ghost use Rattle.geometry.specs.Root.{rootsOf};
 ghost use Rattle.refinement.specs.Refinement.{closes, spanEnds, startOf, endOf, spanWorsts};
 ghost use Rattle.refinement.specs.Round.{Rising, Within};
 
@@ -43,15 +44,15 @@ pub fn start_of(ends: &[usize], s: usize) -> usize
     ends[s - 1]
 }
 
-// The spans' worst deviations take the deviations' places, from the front on.
-pub fn worst_spans(deviations: &mut [f64], ends: &[usize])
-    requires { ⌜ Rising (now ends) × Within (length (now deviations)) (now ends) ⌝ }
-    ensures { λ _. ⌜ now (deviations .exit) ≡ spanWorsts (now (deviations .entry)) (now (ends .entry)) ++ drop (length (now (ends .entry))) (now (deviations .entry)) ⌝ }
+// The squares of the parameters' deviations give way, from the front on, to each span's worst deviation: the root of its largest square.
+pub fn worst_spans(squares: &mut [f64], ends: &[usize])
+    requires { ⌜ Rising (now ends) × Within (length (now squares)) (now ends) ⌝ }
+    ensures { λ _. ⌜ now (squares .exit) ≡ spanWorsts (rootsOf (now (squares .entry))) (now (ends .entry)) ++ drop (length (now (ends .entry))) (now (squares .entry)) ⌝ }
 {
     for s in 0..ends.len() {
         let a = start_of(ends, s);
         let e = ends[s];
-        let worst = geometry::doubles::largest_of(&deviations[a..e]);
-        deviations[s] = worst;
+        let most = geometry::doubles::largest_of(&squares[a..e]);
+        squares[s] = geometry::root::sqrt(most);
     }
 }

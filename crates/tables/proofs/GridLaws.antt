@@ -5,57 +5,75 @@ use mathlib.Core.Logic.{⊎-elim}
 use Prim.Native.Nat.{ℕ, _+_, _-_, _*_, _≤_, _<_}
 use native.Mathlib.Nat.{ne-of-lt, eq-or-lt-of-le}
 use native.Mathlib.Omega.{arith}
+use lib.Dec.{T}
 use lib.ListN.{length, set, length-set}
 use lib.Seq.{getD-set-same, getD-set-other, take-set-le, drop-set-lt, ext-getD}
-use lib.Ieee.{Float, nan}
+use lib.Ieee.{Float, nan, binary64, fits}
 use Rattle.places.specs.Places.{laid, listOf, joined}
 use Rattle.places.specs.Regions.{part, splice}
-use Rattle.places.proofs.PlaceLaws.{length-laid, laid-at, laid-same, laid-laid, laid-region, listOf-at, listOf-same, length-listOf, length-joined, joined-more, joined-same, joined-at}
+use Rattle.places.proofs.PlaceLaws.{laid-at, laid-same, laid-laid, listOf-at, listOf-same, length-listOf, length-joined, joined-more, joined-same, joined-at}
 use Rattle.places.proofs.RegionLaws.{getD-part, getD-after, length-part, part-splice}
 use Rattle.geometry.specs.declared.Point.{Point}
 use Rattle.geometry.specs.Doubles.{at, nought, larger, largest}
 use Rattle.geometry.specs.Points.{squaredDistance, distance, pointAt, coordinates, pointsOf}
-use Rattle.geometry.specs.Root.{sqrtOf}
-use Rattle.geometry.proofs.PointLaws.{weighted-same}
+use Rattle.geometry.specs.Root.{sqrtOf, rootsOf}
+use Rattle.geometry.proofs.PointLaws.{weighted-same, distance-root, squared-fits}
 use Rattle.geometry.proofs.Folds.{largest-none, largest-more}
+use Rattle.geometry.proofs.Roots.{roots-listOf, roots-joined, held-listOf, held-joined}
 use Rattle.tables.specs.declared.Table.{Table}
 use Rattle.tables.specs.declared.Measured.{Measured}
 use Rattle.tables.specs.BasisTable.{BasisTable, first, value, tablePoint}
 use Rattle.tables.specs.Deviations.{rowDistances, curvePoles, gridDistances}
 use Rattle.tables.specs.Directions.{transposed}
 use Rattle.tables.specs.Layout.{tableIn, Kept, HasFit}
-use Rattle.tables.specs.Measures.{measured, withAll, fromLine, squareFromLine, curveOf, HasGrid, GridMeasured, gridDistancesIn}
+use Rattle.tables.specs.Measures.{measured, withAll, squaresMeasured, rooted, squareFromLine, curveOf, HasGrid, LeavesSquares, columnDeviations, rowDeviations, gridDistancesIn}
 use Rattle.tables.proofs.KeptLaws.{kept-laid, kept-splice, kept-wider, kept-then, kept-table}
-use Rattle.tables.proofs.MeasureLaws.{measured-append, measured-within, rooted-largest}
+use Rattle.tables.proofs.MeasureLaws.{squares-append, squares-few, rooted-measured, rooted-largest, part-laid-region}
 use Rattle.tables.proofs.ReadingLaws.{count-in, degree-in, read-kept}
 use Rattle.tables.proofs.SpliceLaws.{length-points, points-same}
 
--- rows of distances, measured one after the other
+-- rows of values; of squares, measured one after the other
 abbrev pub Rows : (ℕ → ℕ → Float) → ℕ → ℕ → List Float
 Rows D cols i = joined i (λ k. listOf cols (D k))
 
-pub rows-measured : (D : ℕ → ℕ → Float) (cols i : ℕ) (total row more : Measured) → total ≡ measured (Rows D cols i) → row ≡ measured (listOf cols (D i)) → more ≡ withAll total row → more ≡ measured (Rows D cols (i + 1))
-rows-measured D cols i total row more e g h =
-    h ∙ rw (e, g) (sym (ap measured (joined-more i (λ k. listOf cols (D k))) ∙ measured-append (Rows D cols i) (listOf cols (D i))))
+pub rows-measured : (S : ℕ → ℕ → Float) (cols i : ℕ) (total row more : Measured) → total ≡ squaresMeasured (Rows S cols i) → row ≡ squaresMeasured (listOf cols (S i)) → more ≡ withAll total row → more ≡ squaresMeasured (Rows S cols (i + 1))
+rows-measured S cols i total row more e g h =
+    h ∙ rw (e, g) (sym (ap squaresMeasured (joined-more i (λ k. listOf cols (S k))) ∙ squares-append (Rows S cols i) (listOf cols (S i))))
 
 length-rows : (D : ℕ → ℕ → Float) (cols i : ℕ) → length (Rows D cols i) ≡ i * cols
 length-rows D cols i = length-joined i cols (λ k. listOf cols (D k)) (λ k h. length-listOf cols (D k))
 
 -- the counts of NaN stay small
-pub rows-few : (D : ℕ → ℕ → Float) (cols i : ℕ) (total : Measured) → total ≡ measured (Rows D cols i) → total .unreadable ≤ i * cols
-rows-few D cols i total e = omega (arith, measured-within (Rows D cols i) total e, length-rows D cols i)
-
-pub row-few : (f : ℕ → Float) (cols : ℕ) (row : Measured) → row ≡ measured (listOf cols f) → row .unreadable ≤ cols
-row-few f cols row e = omega (arith, measured-within (listOf cols f) row e, length-listOf cols f)
+pub rows-few : (S : ℕ → ℕ → Float) (cols i : ℕ) (total : Measured) → total ≡ squaresMeasured (Rows S cols i) → total .unreadable ≤ i * cols
+rows-few S cols i total e = omega (arith, squares-few (Rows S cols i) total e, length-rows S cols i)
 
 rows-at : (D : ℕ → ℕ → Float) (rows cols i j : ℕ) → i < rows → j < cols → at (Rows D cols rows) (i * cols + j) ≡ D i j
 rows-at D rows cols i j h l = joined-at rows cols (λ k. listOf cols (D k)) nan (λ k g. length-listOf cols (D k)) i j h l ∙ listOf-at cols (D i) j nan l
 
+-- distances row after row, by their squares: the measures, and the largest over a column and over a row, by one root each
+module _ (S : ℕ → ℕ → Float) (held : (i j : ℕ) → T (fits binary64 (S i j))) (rows cols : ℕ) (ds : List Float) (e : ds ≡ Rows (λ i j. sqrtOf (S i j)) cols rows) where
+  roots-are : rootsOf (Rows S cols rows) ≡ ds
+  roots-are =
+      roots-joined rows (λ i. listOf cols (S i)) ∙ joined-same rows _ (λ i. listOf cols (λ j. sqrtOf (S i j))) (λ i h. roots-listOf cols (S i)) ∙ sym e
+
+  rows-rooted : (total r : Measured) → total ≡ squaresMeasured (Rows S cols rows) → r ≡ rooted total → r ≡ measured ds
+  rows-rooted total r m h =
+      rooted-measured (Rows S cols rows) total r (held-joined rows (λ i. listOf cols (S i)) (λ i. held-listOf cols (S i) (held i))) m h ∙ ap measured roots-are
+
+  root-at : (i j : ℕ) → i < rows → j < cols → sqrtOf (S i j) ≡ at ds (i * cols + j)
+  root-at i j h l = sym (ap (λ (x : List Float). at x (i * cols + j)) e ∙ rows-at (λ i j. sqrtOf (S i j)) rows cols i j h l)
+
+  column-rooted : (j : ℕ) → j < cols → sqrtOf (largest (listOf rows (λ i. S i j))) ≡ largest (listOf rows (λ i. at ds (i * cols + j)))
+  column-rooted j l = rooted-largest rows (λ i. S i j) (λ i. held i j) ∙ ap largest (listOf-same rows _ _ (λ i h. root-at i j h l))
+
+  row-rooted : (i : ℕ) → i < rows → sqrtOf (largest (listOf cols (S i))) ≡ largest (listOf cols (λ j. at ds (i * cols + j)))
+  row-rooted i h = rooted-largest cols (S i) (held i) ∙ ap largest (listOf-same cols _ _ (λ j l. root-at i j h l))
+
 -- ---- a grid's rows against their own poles
 module _ (t : Table) (index : List ℕ) (points : List Float) (rows m poles out : ℕ) where
-  -- point j of row i
-  abbrev pub rowDistance : List Float → ℕ → ℕ → Float
-  rowDistance w = fromLine (tableIn t w index) m (part poles (poles + 3 * (rows * m)) w) points (t .count)
+  -- point j of row i: its place on the fit, and the square of its distance
+  abbrev rowPoint : List Float → ℕ → ℕ → Point
+  rowPoint w i j = tablePoint (tableIn t w index) (part poles (poles + 3 * (rows * m)) w) (i * m) j
 
   abbrev pub rowSquare : List Float → ℕ → ℕ → Float
   rowSquare w = squareFromLine (tableIn t w index) m (part poles (poles + 3 * (rows * m)) w) points (t .count)
@@ -64,23 +82,17 @@ module _ (t : Table) (index : List ℕ) (points : List Float) (rows m poles out 
   abbrev pub columnLargest : List Float → ℕ → ℕ → Float
   columnLargest w i j = largest (listOf i (λ k. rowSquare w k j))
 
-  module _ (w w′ : List Float) (x : HasFit t rows m poles out (t .count) w index) (k : Kept out (out + t .count) w w′) (i j : ℕ) where
-    abbrev rowPoint : List Float → Point
-    rowPoint v = tablePoint (tableIn t v index) (part poles (poles + 3 * (rows * m)) v) (i * m) j
+  point-kept : (w w′ : List Float) → HasFit t rows m poles out (t .count) w index → Kept out (out + t .count) w w′ → (i j : ℕ) → rowPoint w′ i j ≡ rowPoint w i j
+  point-kept w w′ x k i j = read-kept out (out + t .count) w w′ k t index poles (poles + 3 * (rows * m)) (i * m) j (x .values-before) (omega arith) (x .poles-before)
 
-    point-kept : rowPoint w′ ≡ rowPoint w
-    point-kept = read-kept out (out + t .count) w w′ k t index poles (poles + 3 * (rows * m)) (i * m) j (x .values-before) (omega arith) (x .poles-before)
-
-    row-kept : rowDistance w′ i j ≡ rowDistance w i j
-    row-kept = ap (λ (p : Point). distance p (pointAt points (i * t .count + j))) point-kept
-
-    square-kept : rowSquare w′ i j ≡ rowSquare w i j
-    square-kept = ap (λ (p : Point). squaredDistance p (pointAt points (i * t .count + j))) point-kept
+  square-kept : (w w′ : List Float) → HasFit t rows m poles out (t .count) w index → Kept out (out + t .count) w w′ → (i j : ℕ) → rowSquare w′ i j ≡ rowSquare w i j
+  square-kept w w′ x k i j = ap (λ (p : Point). squaredDistance p (pointAt points (i * t .count + j))) (point-kept w w′ x k i j)
 
   pub row-measured : (w w′ : List Float) (i : ℕ) (row : Measured) → HasFit t rows m poles out (t .count) w index → w′ ≡ laid out (t .count) (columnLargest w i) w
-      → row ≡ measured (listOf (t .count) (rowDistance w′ i)) → row ≡ measured (listOf (t .count) (rowDistance w i))
+      → row ≡ squaresMeasured (listOf (t .count) (rowSquare w′ i)) → row ≡ squaresMeasured (listOf (t .count) (rowSquare w i))
   row-measured w w′ i row x e g =
-      g ∙ ap measured (listOf-same (t .count) (rowDistance w′ i) (rowDistance w i) (λ j l. row-kept w w′ x (rw e (kept-laid out (t .count) (columnLargest w i) w (x .room))) i j))
+      g
+      ∙ ap squaresMeasured (listOf-same (t .count) (rowSquare w′ i) (rowSquare w i) (λ j l. square-kept w w′ x (rw e (kept-laid out (t .count) (columnLargest w i) w (x .room))) i j))
 
   pub rows-turn : (w w₁ w₂ : List Float) (i : ℕ) → HasFit t rows m poles out (t .count) w index → w₁ ≡ laid out (t .count) (columnLargest w i) w
       → w₂ ≡ laid out (t .count) (λ j. larger (at w₁ (out + j)) (rowSquare w₁ i j)) w₁
@@ -101,47 +113,33 @@ module _ (t : Table) (index : List ℕ) (points : List Float) (rows m poles out 
       ∙ ap (λ (v : List Float). laid out (t .count) (λ (k : ℕ). nought) v) e
       ∙ laid-laid out (t .count) (λ (k : ℕ). nought) (λ (k : ℕ). nought) w₀)
 
-  rows-in : (w : List Float) → t .firsts + t .count ≤ length index
-      → rowDistances rows (tableIn t w index) m (part poles (poles + 3 * (rows * m)) w) points ≡ Rows (rowDistance w) (t .count) rows
+  -- the definition's distances are the roots
+  rows-in : (w₀ w : List Float) → HasFit t rows m poles out (t .count) w₀ index → Kept out (out + t .count) w₀ w
+      → rowDistances rows (tableIn t w₀ index) m (part poles (poles + 3 * (rows * m)) w₀) points ≡ Rows (λ i j. sqrtOf (rowSquare w i j)) (t .count) rows
   unfolding rowDistances
-  rows-in w h = rw (count-in t w index h)
+  rows-in w₀ w x k =
+      rw (count-in t w₀ index (x .table .firsts-in))
+      (joined-same rows _ _ (λ i h. listOf-same (t .count) _ (λ j. sqrtOf (rowSquare w i j))
+      (λ j l. distance-root (rowPoint w₀ i j) (pointAt points (i * t .count + j)) ∙ ap sqrtOf (sym (square-kept w₀ w x k i j)))))
 
-  -- the roots of the columns' largest squares are the columns' deviations
-  columns-rooted : (w₀ w w₁ w₂ : List Float) → HasFit t rows m poles out (t .count) w₀ index → w ≡ laid out (t .count) (λ (k : ℕ). nought) w₀
-      → w₁ ≡ laid out (t .count) (columnLargest w rows) w → w₂ ≡ laid out (t .count) (λ j. sqrtOf (at w₁ (out + j))) w₁
-      → w₂ ≡ laid out (t .count) (λ j. largest (listOf rows (λ i. rowDistance w i j))) w
-  columns-rooted w₀ w w₁ w₂ x e e₁ e₂ =
-      let n : ℕ = t .count in
-      let long : length w ≡ length w₀ = ap length e ∙ length-laid out n (λ (k : ℕ). nought) w₀ in
-      let old : (j : ℕ) → j < n → at w₁ (out + j) ≡ columnLargest w rows j =
-      λ j l. ap (λ (v : List Float). at v (out + j)) e₁ ∙ laid-at out n (columnLargest w rows) w j nan l (omega (arith, x .room)) in
-      e₂
-      ∙ laid-same out n _ (λ j. largest (listOf rows (λ i. rowDistance w i j))) w₁
-      (λ j l. ap sqrtOf (old j l)
-      ∙ rooted-largest (λ i. tablePoint (tableIn t w index) (part poles (poles + 3 * (rows * m)) w) (i * m) j) (λ i. pointAt points (i * n + j)) rows)
-      ∙ ap (λ (v : List Float). laid out n (λ j. largest (listOf rows (λ i. rowDistance w i j))) v) e₁
-      ∙ laid-laid out n (λ j. largest (listOf rows (λ i. rowDistance w i j))) (columnLargest w rows) w
-
-  pub rows-done : (w₀ w w₁ w′ : List Float) (total : Measured) → HasFit t rows m poles out (t .count) w₀ index → w ≡ laid out (t .count) (λ (k : ℕ). nought) w₀
-      → w₁ ≡ laid out (t .count) (columnLargest w rows) w → w′ ≡ laid out (t .count) (λ j. sqrtOf (at w₁ (out + j))) w₁ → total ≡ measured (Rows (rowDistance w) (t .count) rows)
-      → (total ≡ measured (rowDistances rows (tableIn t w₀ index) m (part poles (poles + 3 * (rows * m)) w₀) points))
-      × (w′ ≡ splice out (out + t .count) (listOf (t .count) (λ j. largest (listOf rows (λ i. at (rowDistances rows (tableIn t w₀ index) m (part poles (poles + 3 * (rows * m)) w₀) points) (i * t .count + j))))) w₀)
-  rows-done w₀ w w₁ w′ total x e e₁ e₂ g =
+  pub rows-done : (w₀ w w₁ : List Float) (total r : Measured) → HasFit t rows m poles out (t .count) w₀ index → w ≡ laid out (t .count) (λ (k : ℕ). nought) w₀
+      → w₁ ≡ laid out (t .count) (columnLargest w rows) w → total ≡ squaresMeasured (Rows (rowSquare w) (t .count) rows) → r ≡ rooted total
+      → LeavesSquares (t .count) out out (columnDeviations rows (t .count)) (rowDistances rows (tableIn t w₀ index) m (part poles (poles + 3 * (rows * m)) w₀) points) w₀ w₁ r
+  rows-done w₀ w w₁ total r x e e₁ g h =
       let n : ℕ = t .count in
       let kept : Kept out (out + n) w₀ w = rw e (kept-laid out n (λ (k : ℕ). nought) w₀ (x .room)) in
-      let same : (i j : ℕ) → rowDistance w i j ≡ rowDistance w₀ i j = λ i j. row-kept w₀ w x kept i j in
-      let found : Rows (rowDistance w) n rows ≡ rowDistances rows (tableIn t w₀ index) m (part poles (poles + 3 * (rows * m)) w₀) points =
-      joined-same rows (λ i. listOf n (rowDistance w i)) (λ i. listOf n (rowDistance w₀ i)) (λ i h. listOf-same n (rowDistance w i) (rowDistance w₀ i) (λ j l. same i j))
-      ∙ sym (rows-in w₀ (x .table .firsts-in)) in (
-        g ∙ ap measured found,
-        columns-rooted w₀ w w₁ w′ x e e₁ e₂
-            ∙ laid-same out n (λ j. largest (listOf rows (λ i. rowDistance w i j))) _ w
-            (λ j l. ap largest (listOf-same rows (λ i. rowDistance w i j) (λ i. at (rowDistances rows (tableIn t w₀ index) m (part poles (poles + 3 * (rows * m)) w₀) points) (i * n + j))
-            (λ i h. sym (rows-at (rowDistance w) rows n i j h l) ∙ ap (λ (ds : List Float). at ds (i * n + j)) found)))
-            ∙ ap (λ (v : List Float). laid out n (λ j. largest (listOf rows (λ i. at (rowDistances rows (tableIn t w₀ index) m (part poles (poles + 3 * (rows * m)) w₀) points) (i * n + j)))) v) e
-            ∙ laid-laid out n _ (λ (k : ℕ). nought) w₀
-            ∙ laid-region out n _ w₀ (x .room),
-      )
+      let room : out + n ≤ length w = omega (arith, x .room, kept .long) in
+      let held : (i j : ℕ) → T (fits binary64 (rowSquare w i j)) = λ i j. squared-fits (rowPoint w i j) (pointAt points (i * n + j)) in
+      let found = rows-in w₀ w x kept in
+      record {
+        measures = rows-rooted (rowSquare w) held rows n _ found total r g h;
+        deviations =
+            ap (λ (v : List Float). rootsOf (part out (out + n) v)) e₁
+            ∙ ap rootsOf (part-laid-region out n (columnLargest w rows) w room)
+            ∙ roots-listOf n (columnLargest w rows)
+            ∙ listOf-same n (λ j. sqrtOf (columnLargest w rows j)) _ (λ j l. column-rooted (rowSquare w) held rows n _ found j l);
+        kept = kept-then out (out + n) w₀ w w₁ kept (rw e₁ (kept-laid out n (columnLargest w rows) w room));
+      }
 
 -- ---- points of lists of points
 -- point j of row i, of rows of w points
@@ -186,25 +184,25 @@ module _ (u v : Table) (index : List ℕ) (points : List Float) (columns m poles
   abbrev pub curveIn : List Float → ℕ → List Float
   curveIn w i = curveOf (tableIn u w index) columns m (part poles (poles + 3 * (columns * m)) w) i
 
-  abbrev pub gridDistance : List Float → ℕ → ℕ → Float
-  gridDistance w i j = distance (tablePoint (tableIn v w index) (curveIn w i) 0 j) (pointAt points (i * v .count + j))
+  abbrev pub gridSquare : List Float → ℕ → ℕ → Float
+  gridSquare w i j = squaredDistance (tablePoint (tableIn v w index) (curveIn w i) 0 j) (pointAt points (i * v .count + j))
 
   abbrev pub rowLargest : List Float → ℕ → Float
-  rowLargest w i = largest (listOf (v .count) (gridDistance w i))
+  rowLargest w i = largest (listOf (v .count) (gridSquare w i))
 
   -- what the loop keeps
   pub record GridTo (w w′ : List Float) (total : Measured) (i : ℕ) : Type 0 where
     pub kept : Kept curve (out + u .count) w w′
     pub put : (k : ℕ) → k < i → at w′ (out + k) ≡ rowLargest w k
-    pub measures : total ≡ measured (Rows (gridDistance w) (v .count) i)
+    pub measures : total ≡ squaresMeasured (Rows (gridSquare w) (v .count) i)
 
   pub grid-turn : (w w₁ w₂ : List Float) (total row more : Measured) (i : ℕ) → HasGrid u v columns m poles curve out points w index → i < u .count
       → GridTo w w₁ total i
       → w₂ ≡ splice curve (curve + 3 * columns) (curveIn w₁ i) w₁
-      → row ≡ measured (listOf (v .count) (λ j. distance (tablePoint (tableIn v w₂ index) (part curve (curve + 3 * columns) w₂) 0 j) (pointAt points (i * v .count + j))))
+      → row ≡ squaresMeasured (listOf (v .count) (λ j. squaredDistance (tablePoint (tableIn v w₂ index) (part curve (curve + 3 * columns) w₂) 0 j) (pointAt points (i * v .count + j))))
       → more ≡ withAll total row
       → GridTo w (set w₂ (out + i) (row .largest)) more (i + 1)
-  unfolding measured
+  unfolding squaresMeasured
   grid-turn w w₁ w₂ total row more i x h g e r a =
       let to : ℕ = curve + 3 * columns in
       let last : ℕ = out + u .count in
@@ -218,7 +216,7 @@ module _ (u v : Table) (index : List ℕ) (points : List Float) (columns m poles
       let kept₂ : Kept curve last w w₂ =
       kept-then curve last w w₁ w₂ (g .kept) (rw made (kept-wider curve to curve last w₁ (splice curve to (curveIn w i) w₁) (omega arith) (omega (arith, x .behind)) (kept-splice curve to (curveIn w i) w₁ (omega arith) fits size))) in
       let read : part curve to w₂ ≡ curveIn w i = ap (part curve to) made ∙ part-splice curve to (curveIn w i) w₁ (omega arith) fits size in
-      let row′ : row ≡ measured (listOf (v .count) (gridDistance w i)) =
+      let row′ : row ≡ squaresMeasured (listOf (v .count) (gridSquare w i)) =
       r ∙ rw (read, kept-table curve last w w₂ kept₂ v index (x .across-before)) in
       let inside : out + i < length w₂ = omega (arith, kept₂ .long) in
       record {
@@ -233,32 +231,37 @@ module _ (u v : Table) (index : List ℕ) (points : List Float) (columns m poles
             ∙ getD-after curve to (curveIn w i) w₁ (omega arith) fits size nan (out + k) (omega (arith, x .behind))
             ∙ g .put k z)
             (eq-or-lt-of-le (omega arith));
-        measures = rows-measured (gridDistance w) (v .count) i total row more (g .measures) row′ a;
+        measures = rows-measured (gridSquare w) (v .count) i total row more (g .measures) row′ a;
       }
 
-  grid-in : (w : List Float) → HasGrid u v columns m poles curve out points w index → gridDistancesIn u v columns m poles points w index ≡ Rows (gridDistance w) (v .count) (u .count)
+  -- the definition's distances are the roots
+  grid-in : (w : List Float) → HasGrid u v columns m poles curve out points w index
+      → gridDistancesIn u v columns m poles points w index ≡ Rows (λ i j. sqrtOf (gridSquare w i j)) (v .count) (u .count)
   unfolding gridDistances
   grid-in w x =
       rw (count-in u w index (x .fit .table .firsts-in), count-in v w index (x .across .firsts-in))
-      (joined-same (u .count) _ (λ i. listOf (v .count) (gridDistance w i))
-      (λ i h. listOf-same (v .count) _ (gridDistance w i)
-      (λ j l. ap (λ (c : List Float). distance (tablePoint (tableIn v w index) c 0 j) (pointAt points (i * v .count + j))) (curve-in (tableIn u w index) columns m (part poles (poles + 3 * (columns * m)) w) i (rw degree-in (x .fit .table .poles i h))))))
+      (joined-same (u .count) _ (λ i. listOf (v .count) (λ j. sqrtOf (gridSquare w i j)))
+      (λ i h. listOf-same (v .count) _ (λ j. sqrtOf (gridSquare w i j))
+      (λ j l. ap (λ (c : List Float). distance (tablePoint (tableIn v w index) c 0 j) (pointAt points (i * v .count + j))) (curve-in (tableIn u w index) columns m (part poles (poles + 3 * (columns * m)) w) i (rw degree-in (x .fit .table .poles i h)))
+      ∙ distance-root (tablePoint (tableIn v w index) (curveIn w i) 0 j) (pointAt points (i * v .count + j)))))
 
-  pub grid-done : (w w′ : List Float) (total : Measured) → HasGrid u v columns m poles curve out points w index → GridTo w w′ total (u .count)
-      → GridMeasured (u .count) (v .count) curve out (gridDistancesIn u v columns m poles points w index) w w′ total
-  grid-done w w′ total x g =
-      let found : gridDistancesIn u v columns m poles points w index ≡ Rows (gridDistance w) (v .count) (u .count) = grid-in w x in
-      let room : out + u .count ≤ length w′ = omega (arith, x .fit .room, x .behind, g .kept .long) in
-      let size : length (part out (out + u .count) w′) ≡ u .count = length-part out (out + u .count) w′ room ∙ omega arith in
+  pub grid-done : (w w′ : List Float) (total r : Measured) → HasGrid u v columns m poles curve out points w index → GridTo w w′ total (u .count) → r ≡ rooted total
+      → LeavesSquares (u .count) curve out (rowDeviations (u .count) (v .count)) (gridDistancesIn u v columns m poles points w index) w w′ r
+  grid-done w w′ total r x g h =
+      let rows : ℕ = u .count in
+      let held : (i j : ℕ) → T (fits binary64 (gridSquare w i j)) =
+      λ i j. squared-fits (tablePoint (tableIn v w index) (curveIn w i) 0 j) (pointAt points (i * v .count + j)) in
+      let found = grid-in w x in
+      let room : out + rows ≤ length w′ = omega (arith, x .fit .room, x .behind, g .kept .long) in
+      let size : length (part out (out + rows) w′) ≡ rows = length-part out (out + rows) w′ room ∙ omega arith in
+      let stands : part out (out + rows) w′ ≡ listOf rows (rowLargest w) =
+      ext-getD nan _ _ (size ∙ sym (length-listOf rows _))
+      (λ i h. let l : i < rows = omega (arith, size) in getD-part out (out + rows) w′ i nan (omega arith) ∙ g .put i l ∙ sym (listOf-at rows (rowLargest w) i nan l)) in
       record {
-        measures = g .measures ∙ ap measured (sym found);
+        measures = rows-rooted (gridSquare w) held rows (v .count) _ found total r (g .measures) h;
         deviations =
-            ext-getD nan _ _ (size ∙ sym (length-listOf (u .count) _))
-            (λ i h. let l : i < u .count = omega (arith, size) in
-            getD-part out (out + u .count) w′ i nan (omega arith)
-            ∙ g .put i l
-            ∙ ap largest (listOf-same (v .count) (gridDistance w i) (λ j. at (gridDistancesIn u v columns m poles points w index) (i * v .count + j))
-            (λ j q. sym (ap (λ (ds : List Float). at ds (i * v .count + j)) found ∙ rows-at (gridDistance w) (u .count) (v .count) i j l q)))
-            ∙ sym (listOf-at (u .count) (λ i. largest (listOf (v .count) (λ j. at (gridDistancesIn u v columns m poles points w index) (i * v .count + j)))) i nan l));
+            ap rootsOf stands
+            ∙ roots-listOf rows (rowLargest w)
+            ∙ listOf-same rows (λ i. sqrtOf (rowLargest w i)) _ (λ i l. row-rooted (gridSquare w) held rows (v .count) _ found i l);
         kept = g .kept;
       }

@@ -1,39 +1,27 @@
--- Distances as they are found, one after the other: the largest, how many are NaN, and the test of each. Assumes nothing.
+-- Distances measured by their squares, one after the other: the largest, and how many are NaN. Assumes nothing.
 use mathlib.Core.Path.{_≡_, refl, sym, _∙_, ap}
 use mathlib.Core.Bool.{Bool, true, false, cond}
 use mathlib.Core.List.{List, [], _∷_, _++_, append-nil, flatten}
-use Prim.Native.Nat.{ℕ, suc, _+_, _≤_, _<_}
-use native.Mathlib.Numerals.{add-one}
+use Prim.Native.Nat.{ℕ, suc, _+_, _≤_}
 use native.Mathlib.Omega.{arith}
 use native.Mathlib.Nat.{zero-add, suc-add}
-use lib.ListN.{length, getD, drop, drop-of-length-le}
-use lib.Seq.{drop-cons}
-use lib.Ieee.{Float, nan, le, isNan}
-use Rattle.places.specs.Places.{listOf}
-use Rattle.places.proofs.PlaceLaws.{listOf-more, listOf-same, length-listOf}
-use Rattle.geometry.specs.declared.Point.{Point}
+use lib.Dec.{T}
+use lib.ListN.{length}
+use lib.Ieee.{Float, binary64, fits, isNan}
+use Rattle.places.specs.Places.{laid, listOf}
+use Rattle.places.specs.Regions.{part}
+use Rattle.places.proofs.PlaceLaws.{laid-region, listOf-more, listOf-same, length-listOf}
+use Rattle.places.proofs.RegionLaws.{part-splice}
 use Rattle.geometry.specs.Doubles.{larger, largestFrom, largest}
-use Rattle.geometry.specs.Points.{squaredDistance, distance}
-use Rattle.geometry.specs.Root.{sqrtOf}
+use Rattle.geometry.specs.Points.{squaredDistance, pointAt}
+use Rattle.geometry.specs.Root.{sqrtOf, rootsOf}
 use Rattle.geometry.proofs.Folds.{nested-largest, largest-more}
 use Rattle.geometry.proofs.PointLaws.{distance-root, squared-fits}
-use Rattle.geometry.proofs.RootOrder.{largest-root}
+use Rattle.geometry.proofs.Roots.{length-roots, roots-append, roots-listOf, Held, held-listOf, largest-roots}
 use Rattle.tables.specs.declared.Measured.{Measured}
-use Rattle.tables.specs.Deviations.{allWithin, unreadable}
-use Rattle.tables.specs.Measures.{measured, withOne, withAll, squaresMeasured, withSquare, rooted}
-
--- ---- the test of each
-pub all-step : (t : Float) (ds : List Float) (k : ℕ) → k < length ds → le (getD ds k nan) t ≡ true → allWithin t (drop k ds) ≡ allWithin t (drop (k + 1) ds)
-unfolding allWithin
-all-step t ds k h e = rw (add-one, drop-cons ds k nan h, e)
-
-pub all-stop : (t : Float) (ds : List Float) (k : ℕ) → k < length ds → le (getD ds k nan) t ≡ false → allWithin t (drop k ds) ≡ false
-unfolding allWithin
-all-stop t ds k h e = rw (drop-cons ds k nan h, e)
-
-pub all-end : (t : Float) (ds : List Float) (k : ℕ) → length ds ≤ k → allWithin t (drop k ds) ≡ true
-unfolding allWithin
-all-end t ds k h = rw (drop-of-length-le ds h)
+use Rattle.tables.specs.BasisTable.{BasisTable, parameterCount, tablePoint}
+use Rattle.tables.specs.Deviations.{ladderDistances, unreadable}
+use Rattle.tables.specs.Measures.{measured, withAll, squaresMeasured, withSquare, rooted}
 
 -- ---- how many are NaN
 counted : (b : Bool) (n m : ℕ) → cond b (suc (n + m)) (n + m) ≡ cond b (suc n) n + m
@@ -65,52 +53,47 @@ largest-append xs ys =
     sym (nested-largest (xs ∷ ys ∷ []) ∙ ap (λ (l : List Float). largest (xs ++ l)) (append-nil ys))
     ∙ ap (λ (x : Float). larger x (largest ys)) (largest-alone xs)
 
--- ---- both
-pub measured-more : (k : ℕ) (f : ℕ → Float) → measured (listOf (k + 1) f) ≡ withOne (measured (listOf k f)) (f k)
-unfolding measured withOne unreadable
-measured-more k f = rw (largest-more k f, listOf-more k f, unreadable-append (listOf k f) (f k ∷ []))
+-- ---- both, of squares
+squares-more : (k : ℕ) (g : ℕ → Float) → squaresMeasured (listOf (k + 1) g) ≡ withSquare (squaresMeasured (listOf k g)) (g k)
+unfolding squaresMeasured withSquare unreadable rootsOf
+squares-more k g = rw (largest-more k g, listOf-more k g, roots-append (listOf k g) (g k ∷ []), unreadable-append (rootsOf (listOf k g)) (sqrtOf (g k) ∷ []))
 
-pub measured-append : (xs ys : List Float) → measured (xs ++ ys) ≡ withAll (measured xs) (measured ys)
-unfolding measured withAll
-measured-append xs ys = rw (largest-append xs ys, unreadable-append xs ys)
-
-pub measured-few : (k : ℕ) (f : ℕ → Float) (m : Measured) → m ≡ measured (listOf k f) → m .unreadable ≤ k
-unfolding measured
-measured-few k f m e = rw e (omega (arith, unreadable-few (listOf k f), length-listOf k f))
-
-pub measured-next : (k : ℕ) (f : ℕ → Float) (m r : Measured) (d : Float) → m ≡ measured (listOf k f) → d ≡ f k → r ≡ withOne m d → r ≡ measured (listOf (k + 1) f)
-measured-next k f m r d e g h = h ∙ rw (e, g, measured-more)
-
-pub measured-within : (ds : List Float) (m : Measured) → m ≡ measured ds → m .unreadable ≤ length ds
-unfolding measured
-measured-within ds m e = rw e (unreadable-few ds)
-
--- ---- by the squares
-squares-more : (k : ℕ) (g : ℕ → Float) → squaresMeasured (k + 1) g ≡ withSquare (squaresMeasured k g) (g k)
-unfolding squaresMeasured withSquare unreadable
-squares-more k g = rw (largest-more k g, listOf-more k (λ j. sqrtOf (g j)), unreadable-append (listOf k (λ j. sqrtOf (g j))) (sqrtOf (g k) ∷ []))
-
-pub squares-next : (k : ℕ) (g : ℕ → Float) (m r : Measured) (s : Float) → m ≡ squaresMeasured k g → s ≡ g k → r ≡ withSquare m s → r ≡ squaresMeasured (k + 1) g
+pub squares-next : (k : ℕ) (g : ℕ → Float) (m r : Measured) (s : Float) → m ≡ squaresMeasured (listOf k g) → s ≡ g k → r ≡ withSquare m s → r ≡ squaresMeasured (listOf (k + 1) g)
 squares-next k g m r s e h i = i ∙ rw (e, h, squares-more)
 
-pub squares-few : (k : ℕ) (g : ℕ → Float) (m : Measured) → m ≡ squaresMeasured k g → m .unreadable ≤ k
+pub squares-append : (xs ys : List Float) → squaresMeasured (xs ++ ys) ≡ withAll (squaresMeasured xs) (squaresMeasured ys)
+unfolding squaresMeasured withAll
+squares-append xs ys = rw (largest-append xs ys, roots-append xs ys, unreadable-append (rootsOf xs) (rootsOf ys))
+
+pub squares-few : (ss : List Float) (m : Measured) → m ≡ squaresMeasured ss → m .unreadable ≤ length ss
 unfolding squaresMeasured
-squares-few k g m e = rw e (omega (arith, unreadable-few (listOf k (λ j. sqrtOf (g j))), length-listOf k (λ j. sqrtOf (g j))))
+squares-few ss m e = rw e (omega (arith, unreadable-few (rootsOf ss), length-roots ss))
+
+pub squares-listed : (k : ℕ) (g : ℕ → Float) (m : Measured) → m ≡ squaresMeasured (listOf k g) → m .unreadable ≤ k
+squares-listed k g m e = omega (arith, squares-few (listOf k g) m e, length-listOf k g)
 
 -- the distances' largest is the root of the largest square
-module _ (p q : ℕ → Point) where
-  abbrev pub squareTo : ℕ → Float
-  squareTo k = squaredDistance (p k) (q k)
+pub rooted-measured : (ss : List Float) (m r : Measured) → Held ss → m ≡ squaresMeasured ss → r ≡ rooted m → r ≡ measured (rootsOf ss)
+unfolding squaresMeasured rooted measured
+rooted-measured ss m r held e h = h ∙ rw e (rw (largest-roots ss held) refl)
 
-  abbrev pub distanceTo : ℕ → Float
-  distanceTo k = distance (p k) (q k)
+pub rooted-largest : (n : ℕ) (g : ℕ → Float) → ((k : ℕ) → T (fits binary64 (g k))) → sqrtOf (largest (listOf n g)) ≡ largest (listOf n (λ k. sqrtOf (g k)))
+rooted-largest n g held = sym (largest-roots (listOf n g) (held-listOf n g held)) ∙ ap largest (roots-listOf n g)
 
-  pub rooted-same : (n : ℕ) → listOf n distanceTo ≡ listOf n (λ k. sqrtOf (squareTo k))
-  rooted-same n = listOf-same n distanceTo (λ k. sqrtOf (squareTo k)) (λ k h. distance-root (p k) (q k))
+-- values that were laid down, as a part
+pub part-laid-region : (a n : ℕ) (f : ℕ → Float) (w : List Float) → a + n ≤ length w → part a (a + n) (laid a n f w) ≡ listOf n f
+part-laid-region a n f w h =
+    ap (part a (a + n)) (laid-region a n f w h) ∙ part-splice a (a + n) (listOf n f) w (omega arith) h (length-listOf n f ∙ omega arith)
 
-  pub rooted-largest : (n : ℕ) → sqrtOf (largest (listOf n squareTo)) ≡ largest (listOf n distanceTo)
-  rooted-largest n = sym (ap largest (rooted-same n) ∙ largest-root squareTo n (λ k h. squared-fits (p k) (q k)))
+-- a ladder's distances are the roots of their squares
+abbrev pub ladderSquare : BasisTable → List Float → List Float → ℕ → Float
+ladderSquare t poles s k = squaredDistance (tablePoint t poles 0 k) (pointAt s k)
 
-  pub rooted-measured : (n : ℕ) (m r : Measured) → m ≡ squaresMeasured n squareTo → r ≡ rooted m → r ≡ measured (listOf n distanceTo)
-  unfolding squaresMeasured rooted measured
-  rooted-measured n m r e h = h ∙ rw e (rw (rooted-largest n, rooted-same n) refl)
+module _ (t : BasisTable) (poles s : List Float) where
+  pub ladder-rooted : ladderDistances t poles s ≡ rootsOf (listOf (parameterCount t) (ladderSquare t poles s))
+  unfolding ladderDistances
+  ladder-rooted =
+      sym (roots-listOf (parameterCount t) (ladderSquare t poles s) ∙ listOf-same (parameterCount t) _ _ (λ k h. sym (distance-root (tablePoint t poles 0 k) (pointAt s k))))
+
+  pub ladder-held : (n : ℕ) → Held (listOf n (ladderSquare t poles s))
+  ladder-held n = held-listOf n (ladderSquare t poles s) (λ k. squared-fits (tablePoint t poles 0 k) (pointAt s k))

@@ -8,8 +8,8 @@ use lib.Ieee.{Float, isNan}
 use Rattle.places.specs.Places.{listOf}
 use Rattle.places.specs.Regions.{part}
 use Rattle.geometry.specs.Doubles.{at, larger, largest}
-use Rattle.geometry.specs.Points.{squaredDistance, distance, pointAt, pointsOf}
-use Rattle.geometry.specs.Root.{sqrtOf}
+use Rattle.geometry.specs.Points.{squaredDistance, pointAt, pointsOf}
+use Rattle.geometry.specs.Root.{sqrtOf, rootsOf}
 use Rattle.tables.specs.declared.Measured.{Measured}
 use Rattle.tables.specs.declared.Table.{Table}
 use Rattle.tables.specs.BasisTable.{BasisTable, tablePoint}
@@ -21,16 +21,13 @@ use Rattle.tables.specs.Layout.{tableIn, Kept, HasTable, HasFit}
 unfoldable pub measured : List Float → Measured
 measured ds = record { largest = largest ds; unreadable = unreadable ds }
 
--- with one distance more, and with those of another list
-unfoldable pub withOne : Measured → Float → Measured
-withOne m d = record { largest = larger (m .largest) d; unreadable = m .unreadable + cond (isNan d) 1 0 }
-
+-- with those of another list
 unfoldable pub withAll : Measured → Measured → Measured
 withAll m n = record { largest = larger (m .largest) (n .largest); unreadable = m .unreadable + n .unreadable }
 
--- The squares of n distances: the largest, and how many have no root. With one square more, and the measures of the distances themselves, by one root.
-unfoldable pub squaresMeasured : ℕ → (ℕ → Float) → Measured
-squaresMeasured n g = record { largest = largest (listOf n g); unreadable = unreadable (listOf n (λ k. sqrtOf (g k))) }
+-- The squares of distances: the largest, and how many have no root. With one square more, and the measures of the distances themselves, by one root.
+unfoldable pub squaresMeasured : List Float → Measured
+squaresMeasured ss = record { largest = largest ss; unreadable = unreadable (rootsOf ss) }
 
 unfoldable pub withSquare : Measured → Float → Measured
 withSquare m s = record { largest = larger (m .largest) s; unreadable = m .unreadable + cond (isNan (sqrtOf s)) 1 0 }
@@ -38,10 +35,24 @@ withSquare m s = record { largest = larger (m .largest) s; unreadable = m .unrea
 unfoldable pub rooted : Measured → Measured
 rooted m = record { largest = sqrtOf (m .largest); unreadable = m .unreadable }
 
--- point j of row i of s, `cols` points a row, its distance from the row's own m poles, and the square
-abbrev pub fromLine : BasisTable → ℕ → List Float → List Float → ℕ → ℕ → ℕ → Float
-fromLine t m poles s cols i j = distance (tablePoint t poles (i * m) j) (pointAt s (i * cols + j))
+-- What is made of the distances ds of n parameters' points: their measures; from `out` on, for each parameter the square of its deviation (its root is the
+-- deviation); and all else as it was, but for places from `from` on.
+pub record LeavesSquares (n from out : ℕ) (deviationsOf : List Float → List Float) (ds w w′ : List Float) (r : Measured) : Type 0 where
+  pub measures : r ≡ measured ds
+  pub deviations : rootsOf (part out (out + n) w′) ≡ deviationsOf ds
+  pub kept : Kept from (out + n) w w′
 
+-- the deviations of a grid's columns and rows, each the largest over its points, by the distances row after row; a ladder's are the distances themselves
+abbrev pub columnDeviations : ℕ → ℕ → List Float → List Float
+columnDeviations rows cols ds = listOf cols (λ j. largest (listOf rows (λ i. at ds (i * cols + j))))
+
+abbrev pub rowDeviations : ℕ → ℕ → List Float → List Float
+rowDeviations rows cols ds = listOf rows (λ i. largest (listOf cols (λ j. at ds (i * cols + j))))
+
+abbrev pub pointDeviations : List Float → List Float
+pointDeviations ds = ds
+
+-- point j of row i of s, `cols` points a row: the square of its distance from the row's own m poles
 abbrev pub squareFromLine : BasisTable → ℕ → List Float → List Float → ℕ → ℕ → ℕ → Float
 squareFromLine t m poles s cols i j = squaredDistance (tablePoint t poles (i * m) j) (pointAt s (i * cols + j))
 
@@ -49,19 +60,13 @@ squareFromLine t m poles s cols i j = squaredDistance (tablePoint t poles (i * m
 abbrev pub curveOf : BasisTable → ℕ → ℕ → List Float → ℕ → List Float
 curveOf u columns m poles i = pointsOf columns (λ l. tablePoint u poles (l * m) i)
 
--- A surface's u table with the poles of its columns, and its v table, before the places of a curve's poles; the deviations stand behind these.
+-- A surface's u table with the poles of its columns, and its v table, before the places of a curve's poles; the deviations' squares stand behind these.
 pub record HasGrid (u v : Table) (columns m poles curve out : ℕ) (points work : List Float) (index : List ℕ) : Type 0 where
   pub fit : HasFit u columns m poles curve (3 * columns + u .count) work index
   pub across : HasTable v columns work index
   pub across-before : v .values + v .count * (v .degree + 1) ≤ curve
   pub behind : out ≡ curve + 3 * columns
   pub given : 3 * (u .count * v .count) ≤ length points
-
--- what is made of a grid's distances ds: the measures, each parameter's deviation from `out` on, and all else as it was, but for the curve's poles
-pub record GridMeasured (rows cols curve out : ℕ) (ds w w′ : List Float) (r : Measured) : Type 0 where
-  pub measures : r ≡ measured ds
-  pub deviations : part out (out + rows) w′ ≡ listOf rows (λ i. largest (listOf cols (λ j. at ds (i * cols + j))))
-  pub kept : Kept curve (out + rows) w w′
 
 abbrev pub gridDistancesIn : Table → Table → ℕ → ℕ → ℕ → List Float → List Float → List ℕ → List Float
 gridDistancesIn u v columns m poles points work index =

@@ -1,54 +1,20 @@
-// How far the points lie from a fit read at their own parameters, and tests of these distances.
+// How far the points lie from a fit read at their own parameters. The squares of the distances stand in the work; a root is taken of the largest alone.
 ghost use mathlib.Core.Path.{_≡_};
 ghost use Prim.Native.Nat.{_+_, _*_, _^_, _≤_, _<_};
 ghost use lib.ListN.{length};
 ghost use Rattle.places.specs.Places.{listOf, laid};
 ghost use Rattle.places.specs.Regions.{part, splice};
-ghost use Rattle.geometry.specs.Doubles.{at, larger, largest};
-ghost use Rattle.geometry.specs.Points.{distance, pointAt};
-ghost use Rattle.geometry.specs.Root.{sqrtOf};
+ghost use Rattle.geometry.specs.Doubles.{at, larger};
+ghost use Rattle.geometry.specs.Points.{squaredDistance, pointAt};
 ghost use Rattle.tables.specs.BasisTable.{tablePoint};
-ghost use Rattle.tables.specs.Deviations.{allWithin, ladderDistances, rowDistances};
+ghost use Rattle.tables.specs.Deviations.{ladderDistances, rowDistances};
 ghost use Rattle.tables.specs.Layout.{tableIn, Readable, HasTable, HasFit};
-ghost use Rattle.tables.specs.Measures.{measured, withOne, withAll, withSquare, rooted, fromLine, squareFromLine, curveOf, HasGrid, GridMeasured, gridDistancesIn};
+ghost use Rattle.tables.specs.Measures.{squaresMeasured, withAll, withSquare, rooted, squareFromLine, curveOf, HasGrid, LeavesSquares, pointDeviations, columnDeviations, rowDeviations, gridDistancesIn};
 use crate::Measured;
 use crate::Table;
 use geometry::Point;
 
-// Whether each value is at most the tolerance; a NaN is not.
-pub fn all_within(list: &[f64], tolerance: f64) -> bool
-    ensures { λ r. ⌜ r ≡ allWithin tolerance (now (list .entry)) ⌝ }
-{
-    let mut k = 0;
-    while k < list.len() {
-        if list[k] <= tolerance {
-            k += 1;
-        } else {
-            return false;
-        }
-    }
-    true
-}
-
-// One distance more: a NaN is passed over by the largest, and counted.
-fn with_one(m: Measured, d: f64) -> Measured
-    requires { ⌜ m .unreadable + 1 < 2 ^ 64 ⌝ }
-    ensures { λ r. ⌜ r ≡ withOne m d ⌝ }
-{
-    let most = geometry::doubles::max(m.largest, d);
-    if d != d {
-        return Measured {
-            largest: most,
-            unreadable: m.unreadable + 1,
-        };
-    }
-    Measured {
-        largest: most,
-        unreadable: m.unreadable,
-    }
-}
-
-// The measures of two lists of distances, one after the other.
+// The measures of the squares of two lists of distances, one after the other.
 fn with_all(m: Measured, n: Measured) -> Measured
     requires { ⌜ m .unreadable + n .unreadable < 2 ^ 64 ⌝ }
     ensures { λ r. ⌜ r ≡ withAll m n ⌝ }
@@ -87,16 +53,6 @@ fn rooted(squares: Measured) -> Measured
     }
 }
 
-// The root of each of the n values from place `from` on.
-fn roots(work: &mut [f64], from: usize, n: usize)
-    requires { ⌜ from + n ≤ length (now work) ⌝ }
-    ensures { λ _. ⌜ now (work .exit) ≡ laid from n (λ k. sqrtOf (at (now (work .entry)) (from + k))) (now (work .entry)) ⌝ }
-{
-    for k in 0..n {
-        work[from + k] = geometry::root::sqrt(work[from + k]);
-    }
-}
-
 // The point at parameter k of the curve whose poles are those at work[poles..end], from pole `start` on.
 pub fn table_point(
     work: &[f64],
@@ -117,7 +73,7 @@ pub fn table_point(
     bspline::reader::pole_sum(&work[from..to], &work[poles..end], start + first, width)
 }
 
-// A ladder's points against the curve of m poles at `poles`: each point's distance from place `out` on.
+// A ladder's points against the curve of m poles at `poles`: the square of each point's distance from place `out` on.
 pub fn ladder_deviations(
     work: &mut [f64],
     index: &[usize],
@@ -128,8 +84,7 @@ pub fn ladder_deviations(
     out: usize,
 ) -> Measured
     requires { ⌜ HasFit table 1 m poles out (table .count) (now work) (now index) × (3 * table .count ≤ length (now points)) ⌝ }
-    ensures { λ r. ⌜ r ≡ measured (ladderDistances (tableIn table (now (work .entry)) (now (index .entry))) (part poles (poles + 3 * m) (now (work .entry))) (now (points .entry))) ⌝ }
-    ensures { λ _. ⌜ now (work .exit) ≡ splice out (out + table .count) (ladderDistances (tableIn table (now (work .entry)) (now (index .entry))) (part poles (poles + 3 * m) (now (work .entry))) (now (points .entry))) (now (work .entry)) ⌝ }
+    ensures { λ r. ⌜ LeavesSquares (table .count) out out pointDeviations (ladderDistances (tableIn table (now (work .entry)) (now (index .entry))) (part poles (poles + 3 * m) (now (work .entry))) (now (points .entry))) (now (work .entry)) (now (work .exit)) r ⌝ }
 {
     let count = table.count;
     let end = poles + 3 * m;
@@ -139,15 +94,15 @@ pub fn ladder_deviations(
     };
     for k in 0..count {
         let q = table_point(work, index, table, poles, end, 0, k);
-        let d = q.distance(geometry::point_at(points, k));
-        total = with_one(total, d);
-        work[out + k] = d;
+        let s = q.squared_distance(geometry::point_at(points, k));
+        total = with_square(total, s);
+        work[out + k] = s;
     }
-    total
+    rooted(total)
 }
 
 // Row i of a grid against its own m poles: where the square of a point's distance is larger than its column's at `out`, it is put there.
-fn row_distances(
+fn row_squares(
     work: &mut [f64],
     index: &[usize],
     points: &[f64],
@@ -159,7 +114,7 @@ fn row_distances(
     out: usize,
 ) -> Measured
     requires { ⌜ HasFit table rows m poles out (table .count) (now work) (now index) × (i < rows) × (3 * (rows * table .count) ≤ length (now points)) ⌝ }
-    ensures { λ r. ⌜ r ≡ measured (listOf (table .count) (fromLine (tableIn table (now (work .entry)) (now (index .entry))) m (part poles (poles + 3 * (rows * m)) (now (work .entry))) (now (points .entry)) (table .count) i)) ⌝ }
+    ensures { λ r. ⌜ r ≡ squaresMeasured (listOf (table .count) (squareFromLine (tableIn table (now (work .entry)) (now (index .entry))) m (part poles (poles + 3 * (rows * m)) (now (work .entry))) (now (points .entry)) (table .count) i)) ⌝ }
     ensures { λ _. ⌜ now (work .exit) ≡ laid out (table .count) (λ j. larger (at (now (work .entry)) (out + j)) (squareFromLine (tableIn table (now (work .entry)) (now (index .entry))) m (part poles (poles + 3 * (rows * m)) (now (work .entry))) (now (points .entry)) (table .count) i j)) (now (work .entry)) ⌝ }
 {
     let count = table.count;
@@ -176,10 +131,10 @@ fn row_distances(
         total = with_square(total, s);
         work[out + j] = geometry::doubles::max(work[out + j], s);
     }
-    rooted(total)
+    total
 }
 
-// A grid's rows, each against its own m poles: each column's deviation, the largest over the rows, from place `out` on.
+// A grid's rows, each against its own m poles: from place `out` on each column's largest square over the rows.
 pub fn row_deviations(
     work: &mut [f64],
     index: &[usize],
@@ -191,8 +146,7 @@ pub fn row_deviations(
     out: usize,
 ) -> Measured
     requires { ⌜ HasFit table rows m poles out (table .count) (now work) (now index) × (3 * (rows * table .count) ≤ length (now points)) ⌝ }
-    ensures { λ r. ⌜ r ≡ measured (rowDistances rows (tableIn table (now (work .entry)) (now (index .entry))) m (part poles (poles + 3 * (rows * m)) (now (work .entry))) (now (points .entry))) ⌝ }
-    ensures { λ _. ⌜ now (work .exit) ≡ splice out (out + table .count) (listOf (table .count) (λ j. largest (listOf rows (λ i. at (rowDistances rows (tableIn table (now (work .entry)) (now (index .entry))) m (part poles (poles + 3 * (rows * m)) (now (work .entry))) (now (points .entry))) (i * table .count + j))))) (now (work .entry)) ⌝ }
+    ensures { λ r. ⌜ LeavesSquares (table .count) out out (columnDeviations rows (table .count)) (rowDistances rows (tableIn table (now (work .entry)) (now (index .entry))) m (part poles (poles + 3 * (rows * m)) (now (work .entry))) (now (points .entry))) (now (work .entry)) (now (work .exit)) r ⌝ }
 {
     let count = table.count;
     places::fill(work, out, count, 0.0);
@@ -201,11 +155,10 @@ pub fn row_deviations(
         unreadable: 0,
     };
     for i in 0..rows {
-        let row = row_distances(work, index, points, table, rows, m, i, poles, out);
+        let row = row_squares(work, index, points, table, rows, m, i, poles, out);
         total = with_all(total, row);
     }
-    roots(work, out, count);
-    total
+    rooted(total)
 }
 
 // The poles of the v curve at u parameter i, from place `curve` on: column l's m poles stand from pole l * m on.
@@ -230,8 +183,8 @@ fn curve_poles(
     }
 }
 
-// Row i of a grid against the v curve whose poles stand from place `curve` on: a root is taken of the largest square alone.
-fn curve_distances(
+// Row i of a grid against the v curve whose poles stand from place `curve` on: the squares of the distances.
+fn curve_squares(
     work: &[f64],
     index: &[usize],
     points: &[f64],
@@ -241,7 +194,7 @@ fn curve_distances(
     curve: usize,
 ) -> Measured
     requires { ⌜ HasTable v columns (now work) (now index) × (curve + 3 * columns ≤ length (now work)) × (3 * (i * v .count + v .count) ≤ length (now points)) ⌝ }
-    ensures { λ r. ⌜ r ≡ measured (listOf (v .count) (λ j. distance (tablePoint (tableIn v (now (work .entry)) (now (index .entry))) (part curve (curve + 3 * columns) (now (work .entry))) 0 j) (pointAt (now (points .entry)) (i * v .count + j)))) ⌝ }
+    ensures { λ r. ⌜ r ≡ squaresMeasured (listOf (v .count) (λ j. squaredDistance (tablePoint (tableIn v (now (work .entry)) (now (index .entry))) (part curve (curve + 3 * columns) (now (work .entry))) 0 j) (pointAt (now (points .entry)) (i * v .count + j)))) ⌝ }
 {
     let count = v.count;
     let end = curve + 3 * columns;
@@ -255,10 +208,10 @@ fn curve_distances(
         let s = q.squared_distance(geometry::point_at(points, first + j));
         total = with_square(total, s);
     }
-    rooted(total)
+    total
 }
 
-// A grid's points, each against the whole surface at its pair of parameters: each row's deviation, the largest over the row, from place `out` on.
+// A grid's points, each against the whole surface at its pair of parameters: from place `out` on each row's largest square.
 pub fn grid_deviations(
     work: &mut [f64],
     index: &[usize],
@@ -272,7 +225,7 @@ pub fn grid_deviations(
     out: usize,
 ) -> Measured
     requires { ⌜ HasGrid u v columns m poles curve out (now points) (now work) (now index) ⌝ }
-    ensures { λ r. ⌜ GridMeasured (u .count) (v .count) curve out (gridDistancesIn u v columns m poles (now (points .entry)) (now (work .entry)) (now (index .entry))) (now (work .entry)) (now (work .exit)) r ⌝ }
+    ensures { λ r. ⌜ LeavesSquares (u .count) curve out (rowDeviations (u .count) (v .count)) (gridDistancesIn u v columns m poles (now (points .entry)) (now (work .entry)) (now (index .entry))) (now (work .entry)) (now (work .exit)) r ⌝ }
 {
     let rows = u.count;
     let mut total = Measured {
@@ -281,9 +234,9 @@ pub fn grid_deviations(
     };
     for i in 0..rows {
         curve_poles(work, index, u, columns, m, i, poles, curve);
-        let row = curve_distances(work, index, points, v, columns, i, curve);
+        let row = curve_squares(work, index, points, v, columns, i, curve);
         work[out + i] = row.largest;
         total = with_all(total, row);
     }
-    total
+    rooted(total)
 }

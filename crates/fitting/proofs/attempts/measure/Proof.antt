@@ -18,7 +18,7 @@ returns c =
     let s = c .before .before .before .before .before .before .before .before .before .before .before in
     let a = s .args in
     let m = c .before .before .ladder-deviations in
-    measures-ladder (a .job) (a .points .now) (a .work .now) (a .index .now) (s .pre .0) (a .m) (s .pre .1 .0) (s .pre .1 .1) (c .before .before .before .before .if1 .taken) (m .last .0) (m .result) (m .ensures .0) (m .ensures .1)
+    measures-ladder (a .job) (a .points .now) (a .work .now) (a .index .now) (s .pre .0) (a .m) (s .pre .1 .0) (s .pre .1 .1) (c .before .before .before .before .if1 .taken) (m .last .0) (m .result) (m .ensures)
 
 row-deviations-requires : tie.Need-row-deviations-requires
 row-deviations-requires c κs =
@@ -34,7 +34,7 @@ returns-2 c =
     let s = c .before .before .before .before .before .before .before .before .before .before .before .before .before in
     let a = s .args in
     let m = c .before .before .row-deviations in
-    measures-rows (a .job) (a .points .now) (a .work .now) (a .index .now) (s .pre .0) (a .m) (s .pre .1 .0) (s .pre .1 .1) (c .before .before .before .before .if2 .taken) (m .last .0) (m .result) (m .ensures .0) (m .ensures .1)
+    measures-rows (a .job) (a .points .now) (a .work .now) (a .index .now) (s .pre .0) (a .m) (s .pre .1 .0) (s .pre .1 .1) (c .before .before .before .before .if2 .taken) (m .last .0) (m .result) (m .ensures)
 
 grid-deviations-requires : tie.Need-grid-deviations-requires
 grid-deviations-requires c κs =

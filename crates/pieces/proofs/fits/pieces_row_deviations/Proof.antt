@@ -1,5 +1,5 @@
 -- What the call ensures, its two numbers apart. Assumes nothing.
-use mathlib.Core.Path.{ap}
+use mathlib.Core.Path.{ap, refl}
 use lib.ListN.{set}
 use Rattle.tables.specs.declared.Measured.{Measured}
 use borrow.Author.Needs.{needs}
@@ -21,7 +21,7 @@ same-length-2 c = search needs
 returns : tie.Need-returns
 returns c =
     let e = c .before .before .row-deviations .ensures in
-    (ap (λ (m : Measured). m .unreadable) (e .0), (ap (λ (m : Measured). set (c .before .before .before .before .before .before .before .before .args .most .now) 0 (m .largest)) (e .0), e .1))
+    (ap (λ (m : Measured). m .unreadable) (e .measures), (ap (λ (m : Measured). set (c .before .before .before .before .before .before .before .before .args .most .now) 0 (m .largest)) (e .measures), record { measures = refl; deviations = e .deviations; kept = e .kept }))
 
 pub pieces-row-deviations-spec : {M : Type 1} → statement M
 pieces-row-deviations-spec =

@@ -1,27 +1,32 @@
--- The loop's invariant: the worst deviations of the first s spans stand at the front. Span s starts at place s or after it, so its deviations are still there. Assumes nothing.
-use mathlib.Core.Path.{_≡_, refl, sym, _∙_}
+-- The loop's invariant: the worst deviations of the first s spans stand at the front. Span s starts at place s or after it, so its squares are still there, and the
+-- root of the largest of them is the largest of their roots. Assumes nothing.
+use mathlib.Core.Path.{_≡_, refl, sym, _∙_, ap}
 use Prim.Native.Nat.{_-_, _≤_, _<_}
 use native.Mathlib.Omega.{arith}
 use borrow.Author.Needs.{needs}
 use lib.ListN.{length, length-set}
 use lib.Ieee.{nan}
 use Rattle.places.specs.Places.{listOf}
+use Rattle.places.specs.Regions.{part}
 use Rattle.places.proofs.PlaceLaws.{length-listOf, listOf-more}
 use Rattle.places.proofs.GatheredLaws.{front, front-next, front-part}
+use Rattle.geometry.specs.Doubles.{largest}
+use Rattle.geometry.specs.Root.{sqrtOf, rootsOf}
+use Rattle.geometry.proofs.Roots.{roots-part, Held, held-each, held-part, largest-roots}
 use Rattle.refinement.specs.Refinement.{startOf, endOf, worstOf, spanWorsts}
 use Rattle.refinement.proofs.SpanLaws.{start-far}
 use Rattle.refinement.proofs.spans.worst_spans.Statement.{statement}
 use Rattle.refinement.proofs.spans.worst_spans.Tie as tie
 
 abbrev Inv-loop : tie.InvT-loop
-Inv-loop deviations₀ ends s₀ s-end deviations s = (s ≤ length ends) × ((length deviations ≡ length deviations₀) × (deviations ≡ front (listOf s (worstOf deviations₀ ends)) deviations₀))
+Inv-loop squares₀ ends s₀ s-end squares s = (s ≤ length ends) × ((length squares ≡ length squares₀) × (squares ≡ front (listOf s (worstOf (rootsOf squares₀) ends)) squares₀))
 
 abbrev μ-loop : tie.MeasureT-loop
-μ-loop deviations₀ ends s₀ s-end deviations s = length ends - s
+μ-loop squares₀ ends s₀ s-end squares s = length ends - s
 
--- span s is not empty, ends within the deviations, and starts at place s or after it
+-- span s is not empty, ends within the squares, and starts at place s or after it
 span : (x : tie.At-loop Inv-loop μ-loop) → let a = x .before .before .before .args in x .loop .s < length (a .ends .now)
-    → (startOf (a .ends .now) (x .loop .s) < endOf (a .ends .now) (x .loop .s)) × (endOf (a .ends .now) (x .loop .s) ≤ length (a .deviations .now)) × (x .loop .s ≤ startOf (a .ends .now) (x .loop .s))
+    → (startOf (a .ends .now) (x .loop .s) < endOf (a .ends .now) (x .loop .s)) × (endOf (a .ends .now) (x .loop .s) ≤ length (a .squares .now)) × (x .loop .s ≤ startOf (a .ends .now) (x .loop .s))
 span x h =
     let a = x .before .before .before in
     (a .pre .0 (x .loop .s) h, a .pre .1 (x .loop .s) h, start-far (a .args .ends .now) (a .pre .0) (x .loop .s) (omega arith))
@@ -43,7 +48,7 @@ mul-largest-of : tie.Need-mul-largest-of Inv-loop μ-loop
 mul-largest-of c =
     let at = c .before .before .before in
     let in-list = span at (omega arith) in
-    let h : c .before .start-of .result < length (at .loop .deviations) = omega (arith, c .before .start-of .ensures) in
+    let h : c .before .start-of .result < length (at .loop .squares) = omega (arith, c .before .start-of .ensures) in
     search needs
 
 sub-largest-of : tie.Need-sub-largest-of Inv-loop μ-loop
@@ -58,11 +63,14 @@ part-largest-of-end c = let in-list = span (c .before .before .before .before) (
 largest-of-requires : tie.Need-largest-of-requires Inv-loop μ-loop
 largest-of-requires c κs = search needs
 
-mul-deviations : tie.Need-mul-deviations Inv-loop μ-loop
-mul-deviations c = search needs
+sqrt-requires : tie.Need-sqrt-requires Inv-loop μ-loop
+sqrt-requires c κs = search needs
 
-slice-write-deviations : tie.Need-slice-write-deviations Inv-loop μ-loop
-slice-write-deviations c = let in-list = span (c .before .before .before .before .before .before) (omega arith) in omega arith
+mul-squares : tie.Need-mul-squares Inv-loop μ-loop
+mul-squares c = search needs
+
+slice-write-squares : tie.Need-slice-write-squares Inv-loop μ-loop
+slice-write-squares c = let in-list = span (c .before .before .before .before .before .before .before) (omega arith) in omega arith
 
 add-s : tie.Need-add-s Inv-loop μ-loop
 add-s c = search needs
@@ -73,18 +81,26 @@ loop-less c = omega arith
 loop-again : tie.Need-loop-again Inv-loop μ-loop
 unfolding worstOf
 loop-again c =
-    let at = c .before .before .before .before .before .before in
+    let at = c .before .before .before .before .before .before .before in
     let a = at .before .before .before in
+    let old = a .args .squares .now in
+    let ends = a .args .ends .now in
+    let from = startOf ends (at .loop .s) in
+    let to = endOf ends (at .loop .s) in
     let in-list = span at (omega arith) in
-    let xs = listOf (at .loop .s) (worstOf (a .args .deviations .now) (a .args .ends .now)) in
-    let n : length xs ≡ at .loop .s = length-listOf (at .loop .s) (worstOf (a .args .deviations .now) (a .args .ends .now)) in
-    let same = front-part xs (a .args .deviations .now) (startOf (a .args .ends .now) (at .loop .s)) (endOf (a .args .ends .now) (at .loop .s)) (omega arith) in
-    let v : c .largest-of .result ≡ worstOf (a .args .deviations .now) (a .args .ends .now) (at .loop .s) =
-    c .largest-of .ensures ∙ rw (c .before .before .before .before .start-of .ensures, at .loop .inv .1 .1, same) in (
+    let xs = listOf (at .loop .s) (worstOf (rootsOf old) ends) in
+    let n : length xs ≡ at .loop .s = length-listOf (at .loop .s) (worstOf (rootsOf old) ends) in
+    let same = front-part xs old from to (omega arith) in
+    let held : Held (part from to old) = held-part from to old (held-each old (at .before .before .slice-known .given)) in
+    let v : c .sqrt .result ≡ worstOf (rootsOf old) ends (at .loop .s) =
+    c .sqrt .ensures
+    ∙ ap sqrtOf (c .before .largest-of .ensures ∙ rw (c .before .before .before .before .before .start-of .ensures, at .loop .inv .1 .1, same))
+    ∙ sym (largest-roots (part from to old) held)
+    ∙ ap largest (roots-part from to old) in (
       omega arith,
       (
         simp length-set (at .loop .inv .1 .0),
-        rw (listOf-more, ← v, at .loop .inv .1 .1) (front-next xs (a .args .deviations .now) (at .loop .s) (c .largest-of .result) nan (sym n) (omega arith)),
+        rw (listOf-more, ← v, at .loop .inv .1 .1) (front-next xs old (at .loop .s) (c .sqrt .result) nan (sym n) (omega arith)),
       ),
     )
 
@@ -96,7 +112,7 @@ unfolding spanWorsts
 returns c =
     let at = c .before in
     let e : at .loop .s ≡ length (at .before .before .before .args .ends .now) = omega arith in
-    let n = length-listOf (length (at .before .before .before .args .ends .now)) (worstOf (at .before .before .before .args .deviations .now) (at .before .before .before .args .ends .now)) in
+    let n = length-listOf (length (at .before .before .before .args .ends .now)) (worstOf (rootsOf (at .before .before .before .args .squares .now)) (at .before .before .before .args .ends .now)) in
     rw n at (rw e at (at .loop .inv .1 .1))
 
 pub worst-spans-spec : {M : Type 1} → statement M
@@ -114,8 +130,9 @@ worst-spans-spec =
     part-largest-of-start
     part-largest-of-end
     largest-of-requires
-    mul-deviations
-    slice-write-deviations
+    sqrt-requires
+    mul-squares
+    slice-write-squares
     add-s
     loop-less
     loop-again

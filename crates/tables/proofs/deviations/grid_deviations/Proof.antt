@@ -1,4 +1,4 @@
--- The invariant: the first i rows' deviations stand at `out`, only the curve's poles have changed besides, and the measures are theirs. Assumes nothing.
+-- The invariant: the first i rows' largest squares stand at `out`, only the curve's poles have changed besides, and the measures are theirs. Assumes nothing.
 use mathlib.Core.Path.{_≡_, refl}
 use Prim.Native.Nat.{_+_, _-_, _*_, _≤_}
 use native.Mathlib.Nat.{not-suc-le-zero}
@@ -8,11 +8,13 @@ use lib.ListN.{length}
 use Rattle.places.specs.Places.{joined}
 use Rattle.places.proofs.PlaceLaws.{row-in}
 use Rattle.geometry.specs.Doubles.{largest, largestFrom}
+use Rattle.geometry.specs.Root.{rootsOf}
 use Rattle.tables.specs.Deviations.{unreadable}
-use Rattle.tables.specs.Measures.{measured}
+use Rattle.tables.specs.Measures.{squaresMeasured}
 use Rattle.tables.proofs.KeptLaws.{kept-same, has-table-kept}
+use Rattle.tables.proofs.MeasureLaws.{squares-listed}
 use Rattle.tables.proofs.ReadingLaws.{has-fit-kept}
-use Rattle.tables.proofs.GridLaws.{GridTo, gridDistance, rows-few, row-few, grid-turn, grid-done}
+use Rattle.tables.proofs.GridLaws.{GridTo, gridSquare, rows-few, grid-turn, grid-done}
 use Rattle.tables.proofs.deviations.grid_deviations.Statement.{statement}
 use Rattle.tables.proofs.deviations.grid_deviations.Tie as tie
 
@@ -23,7 +25,7 @@ abbrev μ-loop : tie.MeasureT-loop
 μ-loop work₀ index points u v columns m poles curve out rows total₀ i₀ work total i = u .count - i
 
 loop-holds : tie.Need-loop-holds Inv-loop μ-loop
-unfolding measured joined largest largestFrom unreadable
+unfolding squaresMeasured joined rootsOf largest largestFrom unreadable
 loop-holds c =
     let a = c .before .before .before .args in
     (omega arith, refl, record { kept = kept-same (a .curve) (a .out + a .u .count) (a .work .now); put = λ k h. absurd (not-suc-le-zero h); measures = refl })
@@ -36,8 +38,8 @@ curve-poles-requires c κs =
     let x = has-fit-kept (a .u) (a .columns) (a .m) (a .poles) (a .curve) (3 * a .columns + a .u .count) (a .work .now) (l .loop .work) (a .index .now) (p .fit) (omega arith) in
     (record { table = x .table; values-before = x .values-before; poles-before = x .poles-before; room = omega (arith, x .room) }, omega arith)
 
-curve-distances-requires : tie.Need-curve-distances-requires Inv-loop μ-loop
-curve-distances-requires c κs =
+curve-squares-requires : tie.Need-curve-squares-requires Inv-loop μ-loop
+curve-squares-requires c κs =
     let l = c .before .before .before .before .before .before in
     let a = c .before .before .before .before .before .before .before .before .before .before .args in
     let p = c .before .before .before .before .before .before .before .before .before .before .pre in
@@ -58,7 +60,7 @@ with-all-requires : tie.Need-with-all-requires Inv-loop μ-loop
 with-all-requires c κs =
     let l = c .before .before .before .before .before .before .before in
     let a = c .before .before .before .before .before .before .before .before .before .before .before .args in
-    omega (arith, rows-few (gridDistance (a .u) (a .v) (a .index .now) (a .points .now) (a .columns) (a .m) (a .poles) (a .curve) (a .out) (a .work .now)) (a .v .count) (l .loop .i) (l .loop .total) (l .loop .inv .2 .measures), row-few _ (a .v .count) (c .curve-distances .result) (c .curve-distances .ensures), row-in (l .loop .i) (a .u .count) (a .v .count) (omega arith), c .before .before .before .before .before .before .before .before .before .before .before .pre .given, c .before .before .before .before .before .before .before .before .before .before .before .good)
+    omega (arith, rows-few (gridSquare (a .u) (a .v) (a .index .now) (a .points .now) (a .columns) (a .m) (a .poles) (a .curve) (a .out) (a .work .now)) (a .v .count) (l .loop .i) (l .loop .total) (l .loop .inv .2 .measures), squares-listed (a .v .count) _ (c .curve-squares .result) (c .curve-squares .ensures), row-in (l .loop .i) (a .u .count) (a .v .count) (omega arith), c .before .before .before .before .before .before .before .before .before .before .before .pre .given, c .before .before .before .before .before .before .before .before .before .before .before .good)
 
 add-i : tie.Need-add-i Inv-loop μ-loop
 add-i c = search needs
@@ -70,18 +72,22 @@ loop-again : tie.Need-loop-again Inv-loop μ-loop
 loop-again c =
     let l = c .before .before .before .before .before .before .before .before in
     let a = c .before .before .before .before .before .before .before .before .before .before .before .before .args in
-    let g = grid-turn (a .u) (a .v) (a .index .now) (a .points .now) (a .columns) (a .m) (a .poles) (a .curve) (a .out) (a .work .now) (l .loop .work) (c .before .before .before .before .before .curve-poles .last .0) (l .loop .total) (c .before .curve-distances .result) (c .with-all .result) (l .loop .i) (c .before .before .before .before .before .before .before .before .before .before .before .before .pre) (omega arith) (l .loop .inv .2) (c .before .before .before .before .before .curve-poles .ensures) (c .before .curve-distances .ensures) (c .with-all .ensures) in
+    let g = grid-turn (a .u) (a .v) (a .index .now) (a .points .now) (a .columns) (a .m) (a .poles) (a .curve) (a .out) (a .work .now) (l .loop .work) (c .before .before .before .before .before .curve-poles .last .0) (l .loop .total) (c .before .curve-squares .result) (c .with-all .result) (l .loop .i) (c .before .before .before .before .before .before .before .before .before .before .before .before .pre) (omega arith) (l .loop .inv .2) (c .before .before .before .before .before .curve-poles .ensures) (c .before .curve-squares .ensures) (c .with-all .ensures) in
     (omega arith, g .kept .long, g)
+
+rooted-requires : tie.Need-rooted-requires Inv-loop μ-loop
+rooted-requires c κs = search needs
 
 same-length : tie.Need-same-length Inv-loop μ-loop
 same-length c = search needs
 
 returns : tie.Need-returns Inv-loop μ-loop
 returns c =
-    let l = c .before in
-    let a = c .before .before .before .before .before .args in
+    let l = c .before .before in
+    let s = c .before .before .before .before .before .before in
+    let a = s .args in
     let z : l .loop .i ≡ a .u .count = omega arith in
-    grid-done (a .u) (a .v) (a .index .now) (a .points .now) (a .columns) (a .m) (a .poles) (a .curve) (a .out) (a .work .now) (l .loop .work) (l .loop .total) (c .before .before .before .before .before .pre) (rw z at (l .loop .inv .2))
+    grid-done (a .u) (a .v) (a .index .now) (a .points .now) (a .columns) (a .m) (a .poles) (a .curve) (a .out) (a .work .now) (l .loop .work) (l .loop .total) (c .rooted .result) (s .pre) (rw z at (l .loop .inv .2)) (c .rooted .ensures)
 
 pub grid-deviations-spec : {M : Type 1} → statement M
 grid-deviations-spec =
@@ -91,7 +97,7 @@ grid-deviations-spec =
     μ-loop
     loop-holds
     curve-poles-requires
-    curve-distances-requires
+    curve-squares-requires
     add-work
     mul-work
     slice-write-work
@@ -99,5 +105,6 @@ grid-deviations-spec =
     add-i
     loop-less
     loop-again
+    rooted-requires
     same-length
     returns)

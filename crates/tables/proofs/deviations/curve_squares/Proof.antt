@@ -9,21 +9,22 @@ use Rattle.places.specs.Places.{listOf}
 use Rattle.places.specs.Regions.{part}
 use Rattle.geometry.specs.Doubles.{largest, largestFrom}
 use Rattle.geometry.specs.Points.{squaredDistance, pointAt}
+use Rattle.geometry.specs.Root.{rootsOf}
 use Rattle.tables.specs.declared.Table.{Table}
 use Rattle.tables.specs.BasisTable.{tablePoint}
 use Rattle.tables.specs.Deviations.{unreadable}
 use Rattle.tables.specs.Layout.{tableIn}
 use Rattle.tables.specs.Measures.{squaresMeasured}
-use Rattle.tables.proofs.MeasureLaws.{squares-next, squares-few, rooted-measured}
-use Rattle.tables.proofs.deviations.curve_distances.Statement.{statement}
-use Rattle.tables.proofs.deviations.curve_distances.Tie as tie
+use Rattle.tables.proofs.MeasureLaws.{squares-next, squares-listed}
+use Rattle.tables.proofs.deviations.curve_squares.Statement.{statement}
+use Rattle.tables.proofs.deviations.curve_squares.Tie as tie
 
 -- the square of point j's distance
 abbrev one : List Float → List ℕ → List Float → Table → ℕ → ℕ → ℕ → ℕ → Float
 one w index points v columns i curve j = squaredDistance (tablePoint (tableIn v w index) (part curve (curve + 3 * columns) w) 0 j) (pointAt points (i * v .count + j))
 
 abbrev Inv-loop : tie.InvT-loop
-Inv-loop work index points v columns i curve count end first total₀ j₀ total j = (j ≤ v .count) × (total ≡ squaresMeasured j (one work index points v columns i curve))
+Inv-loop work index points v columns i curve count end first total₀ j₀ total j = (j ≤ v .count) × (total ≡ squaresMeasured (listOf j (one work index points v columns i curve)))
 
 abbrev μ-loop : tie.MeasureT-loop
 μ-loop work index points v columns i curve count end first total₀ j₀ total j = v .count - j
@@ -38,7 +39,7 @@ mul-first : tie.Need-mul-first Inv-loop μ-loop
 mul-first c = search needs
 
 loop-holds : tie.Need-loop-holds Inv-loop μ-loop
-unfolding squaresMeasured listOf largest largestFrom unreadable
+unfolding squaresMeasured listOf rootsOf largest largestFrom unreadable
 loop-holds c = (omega arith, refl)
 
 table-point-requires : tie.Need-table-point-requires Inv-loop μ-loop
@@ -60,7 +61,7 @@ squared-distance-requires c κs = search needs
 with-square-requires : tie.Need-with-square-requires Inv-loop μ-loop
 with-square-requires c κs =
     let l = c .before .before .before .before in
-    omega (arith, squares-few (l .loop .j) _ (l .loop .total) (l .loop .inv .1))
+    omega (arith, squares-listed (l .loop .j) _ (l .loop .total) (l .loop .inv .1))
 
 add-j : tie.Need-add-j Inv-loop μ-loop
 add-j c = search needs
@@ -74,19 +75,14 @@ loop-again c =
     let a = c .before .before .before .before .before .before .before .before .before .args in
     (omega arith, squares-next (l .loop .j) (one (a .work .now) (a .index .now) (a .points .now) (a .v) (a .columns) (a .i) (a .curve)) (l .loop .total) (c .with-square .result) (c .before .squared-distance .result) (l .loop .inv .1) (c .before .squared-distance .ensures ∙ rw (c .before .before .before .table-point .ensures, c .before .before .point-at .ensures)) (c .with-square .ensures))
 
-rooted-requires : tie.Need-rooted-requires Inv-loop μ-loop
-rooted-requires c κs = search needs
-
 returns : tie.Need-returns Inv-loop μ-loop
 returns c =
-    let l = c .before .before in
-    let a = c .before .before .before .before .before .before .args in
-    let z : l .loop .j ≡ a .v .count = omega arith in
-    let T = tableIn (a .v) (a .work .now) (a .index .now) in
-    rooted-measured (λ j. tablePoint T (part (a .curve) (a .curve + 3 * a .columns) (a .work .now)) 0 j) (λ j. pointAt (a .points .now) (a .i * a .v .count + j)) (a .v .count) (l .loop .total) (c .rooted .result) (rw z at (l .loop .inv .1)) (c .rooted .ensures)
+    let l = c .before in
+    let z : l .loop .j ≡ c .before .before .before .before .before .args .v .count = omega arith in
+    rw z at (l .loop .inv .1)
 
-pub curve-distances-spec : {M : Type 1} → statement M
-curve-distances-spec =
+pub curve-squares-spec : {M : Type 1} → statement M
+curve-squares-spec =
     tie.close
     (tie.spec
     Inv-loop
@@ -103,5 +99,4 @@ curve-distances-spec =
     add-j
     loop-less
     loop-again
-    rooted-requires
     returns)

@@ -11,16 +11,16 @@ use Rattle.places.specs.Regions.{part}
 use Rattle.places.proofs.PlaceLaws.{laid-none, laid-next, laid-above, length-laid, row-in}
 use Rattle.geometry.specs.Doubles.{at, larger, largest, largestFrom}
 use Rattle.geometry.specs.Points.{squaredDistance, pointAt}
+use Rattle.geometry.specs.Root.{rootsOf}
 use Rattle.tables.specs.declared.Table.{Table}
-use Rattle.tables.specs.BasisTable.{tablePoint}
 use Rattle.tables.specs.Deviations.{unreadable}
 use Rattle.tables.specs.Layout.{tableIn}
 use Rattle.tables.specs.Measures.{squaresMeasured, squareFromLine}
 use Rattle.tables.proofs.KeptLaws.{kept-laid}
-use Rattle.tables.proofs.MeasureLaws.{squares-next, squares-few, rooted-measured}
+use Rattle.tables.proofs.MeasureLaws.{squares-next, squares-listed}
 use Rattle.tables.proofs.ReadingLaws.{read-kept, readable}
-use Rattle.tables.proofs.deviations.row_distances.Statement.{statement}
-use Rattle.tables.proofs.deviations.row_distances.Tie as tie
+use Rattle.tables.proofs.deviations.row_squares.Statement.{statement}
+use Rattle.tables.proofs.deviations.row_squares.Tie as tie
 
 -- the square of point j's distance, and the larger of it and what stood at place `out + j`
 abbrev one : List Float → List ℕ → List Float → Table → ℕ → ℕ → ℕ → ℕ → ℕ → Float
@@ -30,7 +30,7 @@ abbrev more : List Float → List ℕ → List Float → Table → ℕ → ℕ �
 more w index points t rows m i poles out j = larger (at w (out + j)) (one w index points t rows m i poles j)
 
 abbrev Inv-loop : tie.InvT-loop
-Inv-loop work₀ index points table rows m i poles out count end start first total₀ j₀ work total j = (j ≤ table .count) × (length work ≡ length work₀) × (work ≡ laid out j (more work₀ index points table rows m i poles out) work₀) × (total ≡ squaresMeasured j (one work₀ index points table rows m i poles))
+Inv-loop work₀ index points table rows m i poles out count end start first total₀ j₀ work total j = (j ≤ table .count) × (length work ≡ length work₀) × (work ≡ laid out j (more work₀ index points table rows m i poles out) work₀) × (total ≡ squaresMeasured (listOf j (one work₀ index points table rows m i poles)))
 
 abbrev μ-loop : tie.MeasureT-loop
 μ-loop work₀ index points table rows m i poles out count end start first total₀ j₀ work total j = table .count - j
@@ -51,7 +51,7 @@ mul-first : tie.Need-mul-first Inv-loop μ-loop
 mul-first c = let a = c .before .before .before .args in omega (arith, row-in (a .i) (a .rows) (a .table .count) (omega arith))
 
 loop-holds : tie.Need-loop-holds Inv-loop μ-loop
-unfolding squaresMeasured listOf largest largestFrom unreadable
+unfolding squaresMeasured listOf rootsOf largest largestFrom unreadable
 loop-holds c =
     let a = c .before .before .before .args in
     (omega arith, refl, sym (laid-none (a .out) (more (a .work .now) (a .index .now) (a .points .now) (a .table) (a .rows) (a .m) (a .i) (a .poles) (a .out)) (a .work .now)), refl)
@@ -74,7 +74,7 @@ squared-distance-requires c κs = search needs
 with-square-requires : tie.Need-with-square-requires Inv-loop μ-loop
 with-square-requires c κs =
     let l = c .before .before .before .before .before in
-    omega (arith, squares-few (l .loop .j) _ (l .loop .total) (l .loop .inv .3))
+    omega (arith, squares-listed (l .loop .j) _ (l .loop .total) (l .loop .inv .3))
 
 add-max : tie.Need-add-max Inv-loop μ-loop
 add-max c = search needs
@@ -119,22 +119,17 @@ loop-again c =
     let put = laid-next (a .out) j G (a .work .now) (l .loop .work) (c .max .result) (l .loop .inv .2) (c .max .ensures ∙ rw (old, e)) in
     (omega arith, ap length put ∙ length-laid (a .out) (j + 1) G (a .work .now), put, squares-next j D (l .loop .total) (c .before .before .with-square .result) (c .before .before .before .squared-distance .result) (l .loop .inv .3) e (c .before .before .with-square .ensures))
 
-rooted-requires : tie.Need-rooted-requires Inv-loop μ-loop
-rooted-requires c κs = search needs
-
 same-length : tie.Need-same-length Inv-loop μ-loop
 same-length c = search needs
 
 returns : tie.Need-returns Inv-loop μ-loop
 returns c =
-    let l = c .before .before in
-    let a = c .before .before .before .before .before .before .args in
-    let z : l .loop .j ≡ a .table .count = omega arith in
-    let t = tableIn (a .table) (a .work .now) (a .index .now) in
-    (rooted-measured (λ j. tablePoint t (part (a .poles) (a .poles + 3 * (a .rows * a .m)) (a .work .now)) (a .i * a .m) j) (λ j. pointAt (a .points .now) (a .i * a .table .count + j)) (a .table .count) (l .loop .total) (c .rooted .result) (rw z at (l .loop .inv .3)) (c .rooted .ensures), rw z at (l .loop .inv .2))
+    let l = c .before in
+    let z : l .loop .j ≡ c .before .before .before .before .before .args .table .count = omega arith in
+    (rw z at (l .loop .inv .3), rw z at (l .loop .inv .2))
 
-pub row-distances-spec : {M : Type 1} → statement M
-row-distances-spec =
+pub row-squares-spec : {M : Type 1} → statement M
+row-squares-spec =
     tie.close
     (tie.spec
     Inv-loop
@@ -160,6 +155,5 @@ row-distances-spec =
     add-j
     loop-less
     loop-again
-    rooted-requires
     same-length
     returns)
