@@ -36,31 +36,25 @@ square-fits q h = product q q 4294967295 4294967295 (2 ^ 64) (omega arith) (omeg
 pub step-fits : (r y : ℕ) → r < 33999999999 → y < 2 ^ 31 → r / 2 ^ 2 * y < 18300000000000000000
 step-fits r y h k = product (r / 2 ^ 2) y 8500000000 2147483647 18300000000000000000 (omega arith) (omega arith) (lit< tt)
 
-pub cross-fits : (q c : ℕ) → q < 2 ^ 32 → c < 2 ^ 26 → q * (2 * c + 1) < 2 ^ 59
-cross-fits q c h k = product q (2 * c + 1) 4294967295 134217727 (2 ^ 59) (omega arith) (omega arith) (lit< tt)
+pub cross-fits : (q c : ℕ) → q < 2 ^ 32 → c < 2 ^ 26 → q * c < 2 ^ 58
+cross-fits q c h k = product q c 4294967295 67108863 (2 ^ 58) (omega arith) (omega arith) (lit< tt)
 
-pub last-fits : (c : ℕ) → c < 2 ^ 26 → (2 * c + 1) * (2 * c + 1) < 2 ^ 54
-last-fits c h = product (2 * c + 1) (2 * c + 1) 134217727 134217727 (2 ^ 54) (omega arith) (omega arith) (lit< tt)
+pub last-fits : (c : ℕ) → c < 2 ^ 26 → c * (c + 1) < 2 ^ 53
+last-fits c h = product c (c + 1) 67108863 67108864 (2 ^ 53) (omega arith) (omega arith) (lit< tt)
 
 -- ---- the test
 module _ (n q r c f : ℕ) (lo : 2 ^ 60 ≤ n) (leading : q < 2 ^ 32) (rest : (r + q * q) % 2 ^ 64 ≡ n) (small : r < 33999999999)
-    (above : (f + r * 4194304) % 2 ^ 64 ≡ q * (2 * c + 1) + (2 * c + 1) * (2 * c + 1) / 2 ^ 24) (test : f < 2 * q) where
+    (above : (f + r * 4194304) % 2 ^ 64 ≡ 2 * (q * c) + q + c * (c + 1) / 2 ^ 22) (test : f / 2 < q) where
   whole : r + q * q ≡ n
   whole = let s = square-fits q leading in omega arith
 
-  exact : f + r * 4194304 ≡ q * (2 * c + 1) + (2 * c + 1) * (2 * c + 1) / 2 ^ 24
+  exact : f + r * 4194304 ≡ 2 * (q * c) + q + c * (c + 1) / 2 ^ 22
   exact = omega arith
-
-  halves : (2 * c + 1) * (2 * c + 1) / 2 ^ 24 ≡ (c * c + c) / 2 ^ 22
-  halves =
-      let e : (2 * c + 1) * (2 * c + 1) ≡ 4 * (c * c + c) + 1 = omega arith in
-      omega arith
 
   pub is-nearest : nearestTo (n * 2 ^ 44) (q * 4194304 + c)
   is-nearest =
       let w = whole in
       let x = exact in
-      let h = halves in
       (omega arith, omega arith)
 
 pub nearest-below : (n r : ℕ) → n < 2 ^ 106 → nearestTo n r → r ≤ 2 ^ 53

@@ -149,9 +149,8 @@ fn quick_root(n: u64, y: u64) -> Quick
         return Quick::Nothing;
     }
     let c = ((r >> 2) * y + 0x21_0000_0000) >> 38;
-    let h = 2 * c + 1;
-    let square = q * h + ((h * h) >> 24);
-    if std::num::wrapping_sub_u64(square, r * 0x40_0000) < 2 * q {
+    let square = 2 * (q * c) + q + ((c * (c + 1)) >> 22);
+    if std::num::wrapping_sub_u64(square, r * 0x40_0000) / 2 < q {
         Quick::At(q * 0x40_0000 + c)
     } else {
         Quick::Nothing

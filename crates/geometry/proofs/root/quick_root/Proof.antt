@@ -42,10 +42,10 @@ module _ (c : tie.Else1) where
   others-below : others < 2 ^ 26
   others-below = let s = step in omega arith
 
-  cross : leading (c .before .before) * (2 * others + 1) < 2 ^ 59
+  cross : leading (c .before .before) * others < 2 ^ 58
   cross = cross-fits (leading (c .before .before)) others (leading-below (c .before .before)) others-below
 
-  last : (2 * others + 1) * (2 * others + 1) < 2 ^ 54
+  last : others * (others + 1) < 2 ^ 53
   last = last-fits others others-below
 
 mul-c : tie.Need-mul-c
@@ -54,21 +54,28 @@ mul-c c = let s = step c in omega arith
 add-c : tie.Need-add-c
 add-c c = let s = step c in omega arith
 
-mul-h : tie.Need-mul-h
-mul-h c = let o = others-below c in omega arith
-
-add-h : tie.Need-add-h
-add-h c = let o = others-below c in omega arith
-
 mul-square : tie.Need-mul-square
 mul-square c = let x = cross c in omega arith
 
 mul-square-2 : tie.Need-mul-square-2
-mul-square-2 c = let x = last c in omega arith
+mul-square-2 c = let x = cross c in omega arith
 
 add-square : tie.Need-add-square
 add-square c =
     let x = cross c in
+    let l = leading-below (c .before .before) in
+    omega arith
+
+add-square-2 : tie.Need-add-square-2
+add-square-2 c = let o = others-below c in omega arith
+
+mul-square-3 : tie.Need-mul-square-3
+mul-square-3 c = let x = last c in omega arith
+
+add-square-3 : tie.Need-add-square-3
+add-square-3 c =
+    let x = cross c in
+    let l = leading-below (c .before .before) in
     let y = last c in
     omega arith
 
@@ -78,14 +85,11 @@ mul-wrapping-sub-u64-2 c = search needs
 wrapping-sub-u64-requires-2 : tie.Need-wrapping-sub-u64-requires-2
 wrapping-sub-u64-requires-2 c κs = search needs
 
-mul-if2 : tie.Need-mul-if2
-mul-if2 c = let l = leading-below (c .before .before .before) in omega arith
+mul-t15 : tie.Need-mul-t15
+mul-t15 c = let l = leading-below (c .before .before .before .before) in omega arith
 
-mul-t13 : tie.Need-mul-t13
-mul-t13 c = let l = leading-below (c .before .before .before .before) in omega arith
-
-add-t14 : tie.Need-add-t14
-add-t14 c =
+add-t16 : tie.Need-add-t16
+add-t16 c =
     let l = leading-below (c .before .before .before .before) in
     let o = others-below (c .before .before) in
     omega arith
@@ -110,15 +114,15 @@ quick-root-spec =
     returns
     mul-c
     add-c
-    mul-h
-    add-h
     mul-square
     mul-square-2
     add-square
+    add-square-2
+    mul-square-3
+    add-square-3
     mul-wrapping-sub-u64-2
     wrapping-sub-u64-requires-2
-    mul-if2
-    mul-t13
-    add-t14
+    mul-t15
+    add-t16
     returns-2
     returns-3)
