@@ -1,12 +1,11 @@
 -- The arithmetic of the quick way to a root: no product is too large whatever the guess, and the last test leaves the nearest whole number alone. Assumes nothing.
-use mathlib.Core.Path.{_≡_, refl, sym, ap, _∙_, subst}
-use mathlib.Core.Logic.{_⊎_, inl, inr}
+use mathlib.Core.Path.{_≡_, _∙_}
 use Prim.Native.Nat.{ℕ, zero, suc, _+_, _-_, _*_, _/_, _%_, _^_, _≤_, _<_}
-use native.Mathlib.Nat.{le-of-lt, lt-of-le-of-lt, lt-of-not-le, mul-le-mul, mul-le-mul-right, mod-lt}
+use native.Mathlib.Nat.{lt-of-le-of-lt, lt-of-not-le, mul-le-mul, mul-le-mul-right, mod-lt}
 use native.Mathlib.Decide.{decLe}
 use native.Mathlib.Omega.{arith}
 use lib.Dec.{lit<}
-use Rattle.geometry.specs.RootSteps.{RootOf, rootBits, nearestTo}
+use Rattle.geometry.specs.RootSteps.{rootBits, nearestTo}
 use Rattle.geometry.proofs.Steps.{doubled, bits-up, bits-down}
 
 -- ---- sizes

@@ -99,7 +99,7 @@ fn positive_bits(b: u64) -> u64
     }
 }
 
-// The square root of x, rounded to the nearest f64.
+// The square root of x by the careful way, which answers for every x.
 fn careful_sqrt(x: f64) -> f64
     ensures { λ r. ⌜ r ≡ sqrtOf x ⌝ }
 {
@@ -126,7 +126,7 @@ pub enum Quick {
     Nothing,
 }
 
-// A guess at 2^31 / √x, where x from 1 to 4 has the digits of the bit pattern b, by the parity of its exponent.
+// A guess at 2^31 / √x, where x from 1 to 4 has the digits of the bit pattern b, by the parity of its exponent. Its size is all that the proofs need.
 fn reciprocal(b: u64) -> u64
     ensures { λ r. ⌜ r < 2 ^ 31 ⌝ }
 {
@@ -137,8 +137,8 @@ fn reciprocal(b: u64) -> u64
     (seeds::level(i) as u64 + ((t * slope) >> 41)) % 0x8000_0000
 }
 
-// The root of n * 2^44 to the nearest whole number, from a guess y at 2^61 / √n: 31 digits by one product, the others by a step of Newton. The last test is that it
-// is, by how far n * 2^44 lies below the square of the root's upper neighbour at one half.
+// The root of n * 2^44 to the nearest whole number, from a guess y at 2^61 / √n: 31 digits by one product, the other 22 by a step of Newton. With R for both the last
+// test is that R * (R + 1) lies above n * 2^44 by less than 2 R, in parts of 2^22.
 fn quick_root(n: u64, y: u64) -> Quick
     requires { ⌜ (2 ^ 60 ≤ n) × (n < 2 ^ 62) × (y < 2 ^ 31) ⌝ }
     ensures { λ r. ⌜ quickIs (nearestTo (n * 2 ^ 44)) r ⌝ }
