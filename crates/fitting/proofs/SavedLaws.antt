@@ -150,9 +150,6 @@ module _ {j : Job} {points w : List Float} {index : List ℕ} {l saved : ℕ} (h
   pub has-put : HasJob j points w₁ index
   has-put = has-job-kept j points w w₁ index index (length w) (j .table .firsts) has kept-put firstly
 
-  pub has-saved-put : HasSaved j saved w₁
-  has-saved-put = record { knots-in = room .knots-in; poles-in = room .poles-in; behind = room .behind; room = omega (arith, room .room, put .kept .long) }
-
   abbrev d : Direction
   d = directionOf j points w index
 

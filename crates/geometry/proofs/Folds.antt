@@ -107,10 +107,6 @@ pub largest-end : (a : Float) (ds : List Float) (k : ℕ) → length ds ≤ k �
 unfolding largestFrom
 largest-end a ds k h = rw (drop-of-length-le ds h)
 
-pub largest-start : (ds : List Float) → largest ds ≡ largestFrom nought ds
-unfolding largest
-largest-start ds = refl
-
 pub largest-none : (f : ℕ → Float) → largest (listOf 0 f) ≡ nought
 unfolding largest largestFrom listOf
 largest-none f = refl

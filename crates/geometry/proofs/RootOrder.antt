@@ -33,9 +33,6 @@ units-mono x y r s R S h = go (decLe (inUnits r) (inUnits s))
         absurd (clash (inUnits r) (inUnits s) (inUnits x * 2 ^ 1074) (inUnits y * 2 ^ 1074) (mul-le-mul-right (2 ^ 1074) h) (R .above s (S .held) (S .is-plain) l) (S .below r (R .held) (R .is-plain) l))
 
 -- a root is above 0: the least positive value is no nearer to it than 0 is
-least-is : inUnits (fin false 1 (negsuc 1073)) ≡ 1
-least-is = refl
-
 root-units-pos : (x r : Float) → 0 < inUnits x → NearestToRoot x r → 0 < inUnits r
 root-units-pos x r p R = go (eq-zero-or-pos (inUnits r))
   where

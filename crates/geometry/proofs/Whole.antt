@@ -28,13 +28,6 @@ whole-of {n} {q} {rest} r =
     let s = r .small in
     (omega arith, omega arith)
 
--- there is one such q
-pub whole-one : (n q r : ℕ) → IsWhole n q → IsWhole n r → q ≡ r
-whole-one n q r a b =
-    let x : q < r + 1 = sq-lt q (r + 1) (lt-of-le-of-lt (a .0) (b .1)) in
-    let y : r < q + 1 = sq-lt r (q + 1) (lt-of-le-of-lt (b .0) (a .1)) in
-    omega arith
-
 -- ---- `wholeRoot` is that q
 last-digit : (n q : ℕ) → q * q ≤ n → n < (q + 2) * (q + 2) → IsWhole n (oneMore n q)
 last-digit n q a b = go (leb ((q + 1) * (q + 1)) n) (leb→le ((q + 1) * (q + 1)) n) (nleb→lt ((q + 1) * (q + 1)) n)
@@ -158,7 +151,3 @@ module _ (n q rest k : ℕ) (r : RootOf n q rest) (lo : 2 ^ 52 ≤ q) (hi : q < 
   pub scaled-bits : rootBits (n * (2 ^ k * 2 ^ k)) ≡ k * 2 ^ 52 + cond (ltb q rest) (q + 1) q
   unfolding rootBits
   scaled-bits = ap (λ (j : ℕ). j * 2 ^ 52 + nearestRoot (n * (2 ^ k * 2 ^ k)) j) scaled-drop ∙ ap (λ (x : ℕ). k * 2 ^ 52 + x) scaled-nearest
-
-  pub scaled-units : rootUnits (n * (2 ^ k * 2 ^ k)) ≡ units binary64 false (cond (ltb q rest) (q + 1) q) k
-  unfolding rootUnits
-  scaled-units = ap (λ (j : ℕ). units binary64 false (nearestRoot (n * (2 ^ k * 2 ^ k)) j) j) scaled-drop ∙ ap (λ (x : ℕ). units binary64 false x k) scaled-nearest

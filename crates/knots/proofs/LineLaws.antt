@@ -53,9 +53,6 @@ rows-same v rows cols s = shared-same v rows cols _ _ (λ i j h k. let e : i * c
 pub columns-same : (v : Spacing) (rows cols : ℕ) (s : List Float) → sharedParameters v cols rows (linesOf s 1 cols) ≡ sharedParameters v cols rows (λ j i. pointAt s (i * cols + j))
 columns-same v rows cols s = shared-same v cols rows _ _ (λ j i h k. let e : j * 1 + cols * i ≡ i * cols + j = omega arith in ap (pointAt s) e)
 
-pub ladder-in : (n : ℕ) (s : List Float) → 2 ≤ n → 3 * n ≤ length s → HasLine s 0 1 n
-ladder-in n s h l = record { two = h; last = omega arith }
-
 module _ (rows cols : ℕ) (s : List Float) (r : 2 ≤ rows) (c : 2 ≤ cols) (l : 3 * (rows * cols) ≤ length s) where
   pub rows-in : rows ≤ 2 ^ 53 → HasLines s rows cols cols 1
   rows-in h = record { two = c; few = h; last = omega (arith, row-in (rows - 1) rows cols (omega arith)) }

@@ -102,9 +102,6 @@ module _ {A : Type 0} where
       (λ lt. ap (λ (l : List A). set l (a + n) (f n)) (laid-over a n f xs i v lt))
       (eq-or-lt-of-le (le-of-suc-le-suc h))
 
-  pub laid0-over : (n : ℕ) (f : ℕ → A) (xs : List A) (i : ℕ) (v : A) → i < n → laid 0 n f (set xs i v) ≡ laid 0 n f xs
-  laid0-over n f xs i v h = ap (λ (j : ℕ). laid 0 n f (set xs j v)) (sym (zero-add i)) ∙ laid-over 0 n f xs i v h
-
   -- a store into a place that is laid
   pub laid-put : (n : ℕ) (f : ℕ → A) (xs : List A) (i : ℕ) (v : A) → i < n → set (laid 0 n f xs) i v ≡ laid 0 n (λ k. cond (eqb k i) v (f k)) xs
   unfolding laid
@@ -168,14 +165,6 @@ module _ {A : Type 0} where
       ext-getD d _ _ (long ∙ sym long′)
       (λ i q. let q′ : i < k = omega arith in
       getD-take k _ i d q′ ∙ getD-drop b _ i d ∙ laid-below a n f xs (b + i) d (omega arith) ∙ sym (getD-take k _ i d q′ ∙ getD-drop b _ i d))
-
-  pub part-after-laid : (a n : ℕ) (f : ℕ → A) (xs : List A) (b k : ℕ) (d : A) → a + n ≤ b → b + k ≤ length xs → take k (drop b (laid a n f xs)) ≡ take k (drop b xs)
-  part-after-laid a n f xs b k d h l =
-      let long : length (take k (drop b (laid a n f xs))) ≡ k = length-take-le k _ (omega (arith, length-drop b (laid a n f xs), length-laid a n f xs)) in
-      let long′ : length (take k (drop b xs)) ≡ k = length-take-le k _ (omega (arith, length-drop b xs)) in
-      ext-getD d _ _ (long ∙ sym long′)
-      (λ i q. let q′ : i < k = omega arith in
-      getD-take k _ i d q′ ∙ getD-drop b _ i d ∙ laid-above a n f xs (b + i) d (omega arith) ∙ sym (getD-take k _ i d q′ ∙ getD-drop b _ i d))
 
   -- what is laid over a narrower region is laid alone
   pub laid-wider : (a m n : ℕ) (f g : ℕ → A) (xs : List A) → m ≤ n → laid a n f (laid a m g xs) ≡ laid a n f xs

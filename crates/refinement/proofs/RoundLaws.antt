@@ -74,10 +74,6 @@ module _ (params : List Float) (firsts : List ℕ) (deviations : List Float) (mo
   unfolding refinedKnots
   refined-grows h = with-grows (length params) degree flat _ l h e
 
-  pub refined-length : length l ≡ length flat + length (newKnots params (spanEnds firsts) (spanWorsts deviations (spanEnds firsts)) tolerance most)
-  unfolding refinedKnots
-  refined-length = with-length (length params) degree flat _ l e
-
   pub refined-ascending : Ascending l
   unfolding refinedKnots
   refined-ascending = with-ascending (length params) degree flat _ l e

@@ -114,13 +114,6 @@ pub spans-most : (firsts : List ℕ) → length (spanEnds firsts) ≤ length fir
 unfolding spanEnds
 spans-most firsts = omega (arith, length-gathered (length firsts) (closes firsts) (λ k. k + 1), count-most (length firsts) (closes firsts))
 
--- as many new knots as parameters, at most
-pub new-most : (params : List Float) (firsts : List ℕ) (worsts : List Float) (tolerance most : Float) → length (newKnots params (spanEnds firsts) worsts tolerance most) ≤ length firsts
-unfolding newKnots knotsAt
-new-most params firsts worsts tolerance most =
-    let p = splits (spanEnds firsts) worsts tolerance (thresholdOf (spanEnds firsts) worsts tolerance most) in
-    omega (arith, length-gathered (length (spanEnds firsts)) p (middleKnot params (spanEnds firsts)), count-most (length (spanEnds firsts)) p, spans-most firsts)
-
 -- the ends are the part that is handed on
 pub ends-front : (firsts now : List ℕ) (r : ℕ) → r ≡ length (spanEnds firsts) → now ≡ front (spanEnds firsts) firsts → take r now ≡ spanEnds firsts
 ends-front firsts now r e g = rw g (take-at (spanEnds firsts) (drop (length (spanEnds firsts)) firsts) r (sym e))

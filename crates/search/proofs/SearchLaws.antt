@@ -188,10 +188,6 @@ module _ (passes : ℕ → Bool) (degree last : ℕ) where
       (omega (arith, b .0, r .holds .above), omega (arith, b .1, r .holds .below))
 
   -- the invariant in words: from here the tries come to the same answer
-  pub running-answer : (s : Search) → Running passes degree last s → answer last (turns passes last s) ≡ fewest passes degree last
-  unfolding fewest
-  running-answer s r = ap (answer last) (r .same)
-
   pub try-fitted : (s : Search) (n : ℕ) → nextOf s ≡ Try n → passes n ≡ true → Running passes degree last s → Running passes degree last (fittedAt s n)
   try-fitted s n e p r =
       let t = next-try s n e in
