@@ -9,12 +9,12 @@ use native.Mathlib.Nat.{mul-le-mul-right}
 use lib.ListN.{length}
 use lib.Ieee.{Float}
 use Rattle.places.specs.Regions.{part, splice}
-use Rattle.places.proofs.RegionLaws.{length-part, length-splice, part-splice, part-before, part-after}
+use Rattle.places.proofs.RegionLaws.{length-part, part-splice}
 use Rattle.tables.specs.declared.Measured.{Measured}
 use Rattle.tables.specs.Directions.{Direction}
 use Rattle.tables.specs.Layout.{Kept}
 use Rattle.tables.specs.Measures.{measured}
-use Rattle.tables.proofs.KeptLaws.{kept-same, kept-splice, kept-wider, kept-then, kept-behind}
+use Rattle.tables.proofs.KeptLaws.{kept-same, kept-splice, kept-wider, kept-then, kept-part, kept-behind}
 use Rattle.fitting.specs.declared.Job.{Job}
 use Rattle.fitting.specs.declared.Mark.the-variants.{Refined, Spread}
 use Rattle.fitting.specs.declared.Reached.{Reached}
@@ -26,115 +26,86 @@ use Rattle.fitting.specs.Within.{Candidate, refined, candidate, poleCoun
 use Rattle.fitting.specs.Marks.{largestDeviation}
 use Rattle.fitting.specs.Ladders.{accepted, fitBy}
 use Rattle.fitting.specs.Jobs.{HasJob, HasKnots, directionOf, flatIn, polesIn, candidateIn, refinedIn, spreadIn, RefinesWithin, SpreadsBelow}
-use Rattle.fitting.specs.Runs.{markedAs, HasSaved, savedEnd, Saved, Restored, Makes}
+use Rattle.fitting.specs.Runs.{markedAs, HasSaved, placesOf, savedEnd, CopiesFit, FitCopied, Saved, Restored, Makes}
 use Rattle.fitting.proofs.AttemptLaws.{lines-fewer, has-job-kept, direction-kept, pole-count}
 use Rattle.fitting.proofs.MakeLaws.{stands-here, makes-later}
 
 -- ---- the two copies
 
-module _ (j : Job) (l saved : ℕ) (w : List Float) (has : HasSaved j saved w) (knots : HasKnots j l) where
-  abbrev places : ℕ
-  places = 3 * (j .given .lines * (l - j .table .degree - 1))
+module _ (l n flat poles to behind : ℕ) (w : List Float) (x : CopiesFit l n flat poles to behind (length w)) where
+  abbrev knots : List Float
+  knots = part flat (flat + l) w
 
-  pub few-places : places ≤ 3 * (j .given .lines * j .table .count)
+  knots-long : length knots ≡ to + l - to
+  knots-long = length-part flat (flat + l) w (x .knots-in) ∙ omega arith
+
+  knots-room : to + l ≤ length w
+  knots-room = omega (arith, x .order, x .room)
+
+  module _ (w₁ : List Float) (e : w₁ ≡ splice to (to + l) knots w) where
+    kept-knots : Kept to (to + l) w w₁
+    kept-knots = rw e (kept-splice to (to + l) knots w (omega arith) knots-room knots-long)
+
+    pub poles-next : ((poles + n ≤ behind) ⊎ (behind + n ≤ poles)) × (poles + n ≤ length w₁) × (behind + n ≤ length w₁)
+    poles-next = (x .poles-apart, omega (arith, kept-knots .long, x .poles-in), omega (arith, kept-knots .long, x .room))
+
+    same-poles : (poles + n ≤ to) ⊎ (to + l ≤ poles) → part poles (poles + n) w₁ ≡ part poles (poles + n) w
+    same-poles (inl h) = kept-part to (to + l) w w₁ kept-knots poles (poles + n) (omega arith) h
+    same-poles (inr h) = kept-behind to (to + l) w w₁ kept-knots poles (poles + n) h
+
+    pub copied : (w₂ : List Float) → w₂ ≡ splice behind (behind + n) (part poles (poles + n) w₁) w₁ → FitCopied l n flat poles to behind w w₂
+    copied w₂ f =
+        let z : length (part poles (poles + n) w₁) ≡ behind + n - behind = length-part poles (poles + n) w₁ (poles-next .1) ∙ omega arith in
+        let k : Kept behind (behind + n) w₁ w₂ = rw f (kept-splice behind (behind + n) (part poles (poles + n) w₁) w₁ (omega arith) (poles-next .2) z) in
+        record {
+          knots-there =
+              kept-part behind (behind + n) w₁ w₂ k to (to + l) (omega arith) (x .order)
+              ∙ ap (part to (to + l)) e
+              ∙ part-splice to (to + l) knots w (omega arith) knots-room knots-long;
+          poles-there = ap (part behind (behind + n)) f ∙ part-splice behind (behind + n) (part poles (poles + n) w₁) w₁ (omega arith) (poles-next .2) z ∙ same-poles (x .poles-stay);
+          kept =
+              kept-then to (behind + n) w w₁ w₂
+              (kept-wider to (to + l) to (behind + n) w w₁ (omega arith) (omega (arith, x .order)) kept-knots)
+              (kept-wider behind (behind + n) to (behind + n) w₁ w₂ (omega (arith, x .order)) (omega arith) k);
+        }
+
+-- ---- a job's fit and its place behind the regions
+
+module _ {j : Job} {l saved : ℕ} {w : List Float} (has : HasSaved j saved w) (knots : HasKnots j l) where
+  pub few-places : placesOf j l ≤ 3 * (j .given .lines * j .table .count)
   few-places = omega (arith, lines-fewer j (l - j .table .degree - 1) (omega (arith, knots .most)))
 
   pub saved-fits : savedEnd j l saved ≤ length w
   saved-fits = omega (arith, few-places, knots .most, has .room)
 
-  poles-long : length (part (j .poles) (j .poles + places) w) ≡ places
-  poles-long = length-part (j .poles) (j .poles + places) w (omega (arith, few-places, has .poles-in, has .behind, saved-fits)) ∙ omega arith
+  knots-before : j .flat + l ≤ j .poles
+  knots-before = omega (arith, knots .most, has .knots-in)
 
-  flat-long : length (part (j .flat) (j .flat + l) w) ≡ l
-  flat-long = length-part (j .flat) (j .flat + l) w (omega (arith, knots .most, has .knots-in, has .poles-in, has .behind, saved-fits)) ∙ omega arith
+  poles-before : j .poles + placesOf j l ≤ saved
+  poles-before = omega (arith, few-places, has .poles-in, has .behind)
 
-  -- the copies' own places
-  pub save-first : ((j .flat + l ≤ saved) ⊎ (saved + l ≤ j .flat)) × (j .flat + l ≤ length w) × (saved + l ≤ length w)
-  save-first = (
-    inl (omega (arith, knots .most, has .knots-in, has .poles-in, has .behind)),
-    omega (arith, knots .most, has .knots-in, has .poles-in, has .behind, saved-fits),
-    omega (arith, saved-fits),
-  )
-
-  pub save-second : (w₁ : List Float) → w₁ ≡ splice saved (saved + l) (part (j .flat) (j .flat + l) w) w
-      → ((j .poles + places ≤ saved + l) ⊎ (saved + l + places ≤ j .poles)) × (j .poles + places ≤ length w₁) × (saved + l + places ≤ length w₁)
-  save-second w₁ e =
-      let n : length w₁ ≡ length w = ap length e ∙ length-splice saved (saved + l) (part (j .flat) (j .flat + l) w) w (omega arith) (omega (arith, saved-fits)) (flat-long ∙ omega arith) in
-      (inl (omega (arith, few-places, has .poles-in, has .behind)), omega (arith, n, few-places, has .poles-in, has .behind, saved-fits), omega (arith, n, saved-fits))
-
-  pub restore-first : ((saved + l ≤ j .flat) ⊎ (j .flat + l ≤ saved)) × (saved + l ≤ length w) × (j .flat + l ≤ length w)
-  restore-first = (
-    inr (omega (arith, knots .most, has .knots-in, has .poles-in, has .behind)),
-    omega (arith, saved-fits),
-    omega (arith, knots .most, has .knots-in, has .poles-in, has .behind, saved-fits),
-  )
-
-  pub restore-second : (w₁ : List Float) → w₁ ≡ splice (j .flat) (j .flat + l) (part saved (saved + l) w) w
-      → ((saved + l + places ≤ j .poles) ⊎ (j .poles + places ≤ saved + l)) × (saved + l + places ≤ length w₁) × (j .poles + places ≤ length w₁)
-  restore-second w₁ e =
-      let n : length w₁ ≡ length w =
-      ap length e
-      ∙ length-splice (j .flat) (j .flat + l) (part saved (saved + l) w) w (omega arith) (omega (arith, knots .most, has .knots-in, has .poles-in, has .behind, saved-fits))
-      (length-part saved (saved + l) w (omega (arith, saved-fits)) ∙ omega arith) in
-      (inr (omega (arith, few-places, has .poles-in, has .behind)), omega (arith, n, saved-fits), omega (arith, n, few-places, has .poles-in, has .behind, saved-fits))
-
-  pub saves : (w₁ w₂ : List Float) → w₁ ≡ splice saved (saved + l) (part (j .flat) (j .flat + l) w) w
-      → w₂ ≡ splice (saved + l) (savedEnd j l saved) (part (j .poles) (j .poles + places) w₁) w₁ → Saved j l saved w w₂
-  unfolding flatIn polesIn
-  saves w₁ w₂ e f =
-      let z₁ : length (part (j .flat) (j .flat + l) w) ≡ saved + l - saved = flat-long ∙ omega arith in
-      let k₁ : Kept saved (saved + l) w w₁ = rw e (kept-splice saved (saved + l) (part (j .flat) (j .flat + l) w) w (omega arith) (omega (arith, saved-fits)) z₁) in
-      let same : part (j .poles) (j .poles + places) w₁ ≡ part (j .poles) (j .poles + places) w =
-      ap (part (j .poles) (j .poles + places)) e
-      ∙ part-before saved (saved + l) (part (j .flat) (j .flat + l) w) w (omega arith) (omega (arith, saved-fits)) z₁ (j .poles) (j .poles + places) (omega arith)
-      (omega (arith, few-places, has .poles-in, has .behind)) in
-      let z₂ : length (part (j .poles) (j .poles + places) w₁) ≡ savedEnd j l saved - (saved + l) = ap length same ∙ poles-long ∙ omega arith in
-      let room : savedEnd j l saved ≤ length w₁ = omega (arith, k₁ .long, saved-fits) in
-      let k₂ : Kept (saved + l) (savedEnd j l saved) w₁ w₂ = rw f (kept-splice (saved + l) (savedEnd j l saved) (part (j .poles) (j .poles + places) w₁) w₁ (omega arith) room z₂) in
+  pub saves : CopiesFit l (placesOf j l) (j .flat) (j .poles) saved (saved + l) (length w)
+  saves =
       record {
-        flat =
-            ap (part saved (saved + l)) f
-            ∙ part-before (saved + l) (savedEnd j l saved) (part (j .poles) (j .poles + places) w₁) w₁ (omega arith) room z₂ saved (saved + l) (omega arith) (omega arith)
-            ∙ ap (part saved (saved + l)) e
-            ∙ part-splice saved (saved + l) (part (j .flat) (j .flat + l) w) w (omega arith) (omega (arith, saved-fits)) z₁;
-        poles =
-            ap (part (saved + l) (savedEnd j l saved)) f
-            ∙ part-splice (saved + l) (savedEnd j l saved) (part (j .poles) (j .poles + places) w₁) w₁ (omega arith) room z₂
-            ∙ same;
-        kept =
-            kept-then saved (savedEnd j l saved) w w₁ w₂
-            (kept-wider saved (saved + l) saved (savedEnd j l saved) w w₁ (omega arith) (omega arith) k₁)
-            (kept-wider (saved + l) (savedEnd j l saved) saved (savedEnd j l saved) w₁ w₂ (omega arith) (omega arith) k₂);
+        knots-apart = inl (omega (arith, knots-before, poles-before));
+        poles-apart = inl (omega (arith, poles-before));
+        poles-stay = inl poles-before;
+        order = omega arith;
+        knots-in = omega (arith, knots-before, poles-before, saved-fits);
+        poles-in = omega (arith, poles-before, saved-fits);
+        room = saved-fits;
       }
 
-  pub restores : (w₁ w₂ : List Float) → w₁ ≡ splice (j .flat) (j .flat + l) (part saved (saved + l) w) w
-      → w₂ ≡ splice (j .poles) (j .poles + places) (part (saved + l) (savedEnd j l saved) w₁) w₁ → Restored j l saved w w₂
-  unfolding flatIn polesIn
-  restores w₁ w₂ e f =
-      let flat-fits : j .flat + l ≤ length w = omega (arith, knots .most, has .knots-in, has .poles-in, has .behind, saved-fits) in
-      let z₁ : length (part saved (saved + l) w) ≡ j .flat + l - j .flat = length-part saved (saved + l) w (omega (arith, saved-fits)) ∙ omega arith in
-      let k₁ : Kept (j .flat) (j .flat + l) w w₁ = rw e (kept-splice (j .flat) (j .flat + l) (part saved (saved + l) w) w (omega arith) flat-fits z₁) in
-      let same : part (saved + l) (savedEnd j l saved) w₁ ≡ part (saved + l) (savedEnd j l saved) w =
-      kept-behind (j .flat) (j .flat + l) w w₁ k₁ (saved + l) (savedEnd j l saved) (omega (arith, knots .most, has .knots-in, has .poles-in, has .behind)) in
-      let z₂ : length (part (saved + l) (savedEnd j l saved) w₁) ≡ j .poles + places - j .poles =
-      ap length same ∙ length-part (saved + l) (savedEnd j l saved) w saved-fits ∙ omega arith in
-      let room : j .poles + places ≤ length w₁ = omega (arith, k₁ .long, few-places, has .poles-in, has .behind, saved-fits) in
-      let k₂ : Kept (j .poles) (j .poles + places) w₁ w₂ = rw f (kept-splice (j .poles) (j .poles + places) (part (saved + l) (savedEnd j l saved) w₁) w₁ (omega arith) room z₂) in
+  pub restores : CopiesFit l (placesOf j l) saved (saved + l) (j .flat) (j .poles) (length w)
+  restores =
       record {
-        flat =
-            ap (part (j .flat) (j .flat + l)) f
-            ∙ part-before (j .poles) (j .poles + places) (part (saved + l) (savedEnd j l saved) w₁) w₁ (omega arith) room z₂ (j .flat) (j .flat + l) (omega arith)
-            (omega (arith, knots .most, has .knots-in))
-            ∙ ap (part (j .flat) (j .flat + l)) e
-            ∙ part-splice (j .flat) (j .flat + l) (part saved (saved + l) w) w (omega arith) flat-fits z₁;
-        poles =
-            ap (part (j .poles) (j .poles + places)) f
-            ∙ part-splice (j .poles) (j .poles + places) (part (saved + l) (savedEnd j l saved) w₁) w₁ (omega arith) room z₂
-            ∙ same;
-        kept =
-            kept-then (j .flat) saved w w₁ w₂
-            (kept-wider (j .flat) (j .flat + l) (j .flat) saved w w₁ (omega arith) (omega (arith, knots .most, has .knots-in, has .poles-in, has .behind)) k₁)
-            (kept-wider (j .poles) (j .poles + places) (j .flat) saved w₁ w₂ (omega (arith, has .knots-in)) (omega (arith, few-places, has .poles-in, has .behind)) k₂);
+        knots-apart = inr (omega (arith, knots-before, poles-before));
+        poles-apart = inr (omega (arith, poles-before));
+        poles-stay = inr (omega (arith, knots-before, poles-before));
+        order = knots-before;
+        knots-in = omega (arith, saved-fits);
+        poles-in = saved-fits;
+        room = omega (arith, poles-before, saved-fits);
       }
 
 -- ---- the search below the saved fit
@@ -145,7 +116,7 @@ module _ {j : Job} {points w : List Float} {index : List ℕ} {l saved : ℕ} (h
 
   kept-put : Kept (j .flat) (length w) w w₁
   kept-put =
-      kept-wider saved (savedEnd j l saved) (j .flat) (length w) w w₁ (omega (arith, room .knots-in, room .poles-in, room .behind)) (saved-fits j l saved w room knots) (put .kept)
+      kept-wider saved (savedEnd j l saved) (j .flat) (length w) w w₁ (omega (arith, room .knots-in, room .poles-in, room .behind)) (saved-fits room knots) (put .kept)
 
   pub has-put : HasJob j points w₁ index
   has-put = has-job-kept j points w w₁ index index (length w) (j .table .firsts) has kept-put firstly
@@ -187,19 +158,21 @@ module _ {j : Job} {points w : List Float} {index : List ℕ} {l saved : ℕ} (h
       kept-back : Kept (j .flat) (length w) w w₃
       kept-back =
           kept-then (j .flat) (length w) w w₂ w₃ kept-searched
-          (kept-wider (j .flat) saved (j .flat) (length w) w₂ w₃ (omega arith) (omega (arith, room .room)) (back .kept))
+          (kept-wider (j .flat) (j .poles + placesOf j l) (j .flat) (length w) w₂ w₃ (omega arith) (omega (arith, kept-searched .long, restores room knots .room)) (back .kept))
 
       flat-back : flatIn j l w₃ ≡ flatIn j l w
+      unfolding flatIn
       flat-back =
-          back .flat
+          back .knots-there
           ∙ kept-behind (j .flat) (j .fresh + j .table .count) w₁ w₂ (x .reaches .kept) saved (saved + l) (room .behind)
-          ∙ put .flat
+          ∙ put .knots-there
 
       poles-back : polesIn j l w₃ ≡ polesIn j l w
+      unfolding polesIn
       poles-back =
-          back .poles
+          back .poles-there
           ∙ kept-behind (j .flat) (j .fresh + j .table .count) w₁ w₂ (x .reaches .kept) (saved + l) (savedEnd j l saved) (omega (arith, room .behind))
-          ∙ put .poles
+          ∙ put .poles-there
 
       fit-back : candidateIn j points l w₃ index₂ ≡ fit
       unfolding candidateIn

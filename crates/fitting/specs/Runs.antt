@@ -1,6 +1,7 @@
 -- What a ladder call does after its checks: the regions of a ladder in the lent slices, and the fit that then stands there. Definitions only.
 use mathlib.Core.Path.{_≡_}
 use mathlib.Core.List.{List}
+use mathlib.Core.Logic.{_⊎_}
 use Prim.Native.Nat.{ℕ, _+_, _-_, _*_, _≤_}
 use lib.ListN.{length}
 use lib.Ieee.{Float}
@@ -74,18 +75,34 @@ pub record HasSaved (j : Job) (saved : ℕ) (work : List Float) : Type 0 where
   pub behind : j .fresh + j .table .count ≤ saved
   pub room : saved + (j .table .count + j .table .degree + 1) + 3 * (j .given .lines * j .table .count) ≤ length work
 
--- where a fit on l flat knots ends there
+-- the places of the poles of a fit on l flat knots
+abbrev pub placesOf : Job → ℕ → ℕ
+placesOf j l = 3 * (j .given .lines * (l - j .table .degree - 1))
+
+-- where such a fit ends there
 abbrev pub savedEnd : Job → ℕ → ℕ → ℕ
-savedEnd j l saved = saved + l + 3 * (j .given .lines * (l - j .table .degree - 1))
+savedEnd j l saved = saved + l + placesOf j l
+
+-- l knots from place flat on and n places of poles from place poles on, which can be copied to the places from `to` and from `behind` on.
+pub record CopiesFit (l n flat poles to behind size : ℕ) : Type 0 where
+  pub knots-apart : (flat + l ≤ to) ⊎ (to + l ≤ flat)
+  pub poles-apart : (poles + n ≤ behind) ⊎ (behind + n ≤ poles)
+  pub poles-stay : (poles + n ≤ to) ⊎ (to + l ≤ poles)
+  pub order : to + l ≤ behind
+  pub knots-in : flat + l ≤ size
+  pub poles-in : poles + n ≤ size
+  pub room : behind + n ≤ size
+
+-- And copied.
+pub record FitCopied (l n flat poles to behind : ℕ) (w w′ : List Float) : Type 0 where
+  pub knots-there : part to (to + l) w′ ≡ part flat (flat + l) w
+  pub poles-there : part behind (behind + n) w′ ≡ part poles (poles + n) w
+  pub kept : Kept to (behind + n) w w′
 
 -- The fit on l flat knots that stands in the regions, saved there.
-pub record Saved (j : Job) (l saved : ℕ) (w w′ : List Float) : Type 0 where
-  pub flat : part saved (saved + l) w′ ≡ flatIn j l w
-  pub poles : part (saved + l) (savedEnd j l saved) w′ ≡ polesIn j l w
-  pub kept : Kept saved (savedEnd j l saved) w w′
+abbrev pub Saved : Job → ℕ → ℕ → List Float → List Float → Type 0
+Saved j l saved w w′ = FitCopied l (placesOf j l) (j .flat) (j .poles) saved (saved + l) w w′
 
 -- And the one saved there, in the regions again.
-pub record Restored (j : Job) (l saved : ℕ) (w w′ : List Float) : Type 0 where
-  pub flat : flatIn j l w′ ≡ part saved (saved + l) w
-  pub poles : polesIn j l w′ ≡ part (saved + l) (savedEnd j l saved) w
-  pub kept : Kept (j .flat) saved w w′
+abbrev pub Restored : Job → ℕ → ℕ → List Float → List Float → Type 0
+Restored j l saved w w′ = FitCopied l (placesOf j l) saved (saved + l) (j .flat) (j .poles) w w′

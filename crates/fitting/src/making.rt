@@ -2,13 +2,14 @@
 ghost use mathlib.Core.Path.{_≡_};
 ghost use mathlib.Core.Option.{some};
 ghost use Prim.Native.Nat.{_≤_, _<_};
+ghost use lib.ListN.{length};
 ghost use Rattle.bspline.specs.declared.Verdict.the-variants.{Pass};
 ghost use Rattle.fitting.specs.declared.Call.the-variants.{Interpolate, Approximate, ApproximateWithin, SearchSpread};
 ghost use Rattle.tables.specs.Measures.{measured};
 ghost use Rattle.fitting.specs.Within.{fewerOr, fitWithinFewest};
 ghost use Rattle.fitting.specs.Ladders.{accepted, aimVerdict, countVerdict, fitTo, fitBy};
 ghost use Rattle.fitting.specs.Jobs.{HasJob, HasKnots, directionOf, candidateIn};
-ghost use Rattle.fitting.specs.Runs.{HasSaved, Saved, Restored, Makes};
+ghost use Rattle.fitting.specs.Runs.{HasSaved, CopiesFit, FitCopied, Makes};
 use crate::Aim;
 use crate::Attempt;
 use crate::Call;
@@ -101,26 +102,21 @@ fn make_within(
     }
 }
 
-// The fit on l flat knots copied behind the job's regions, from place `saved` on.
-fn save_fit(work: &mut [f64], job: Job, l: usize, saved: usize)
-    requires { ⌜ HasSaved job saved (now work) × HasKnots job l ⌝ }
-    ensures { λ _. ⌜ Saved job l saved (now (work .entry)) (now (work .exit)) ⌝ }
+// A fit of l knots and n places of poles, copied from the places flat and poles to the places to and behind.
+fn copy_fit(
+    work: &mut [f64],
+    l: usize,
+    n: usize,
+    flat: usize,
+    poles: usize,
+    to: usize,
+    behind: usize,
+)
+    requires { ⌜ CopiesFit l n flat poles to behind (length (now work)) ⌝ }
+    ensures { λ _. ⌜ FitCopied l n flat poles to behind (now (work .entry)) (now (work .exit)) ⌝ }
 {
-    let m = l - job.table.degree - 1;
-    let places = 3 * (job.given.lines * m);
-    places::copy_within(work, job.flat, l, saved);
-    places::copy_within(work, job.poles, places, saved + l);
-}
-
-// And copied back.
-fn restore_fit(work: &mut [f64], job: Job, l: usize, saved: usize)
-    requires { ⌜ HasSaved job saved (now work) × HasKnots job l ⌝ }
-    ensures { λ _. ⌜ Restored job l saved (now (work .entry)) (now (work .exit)) ⌝ }
-{
-    let m = l - job.table.degree - 1;
-    let places = 3 * (job.given.lines * m);
-    places::copy_within(work, saved, l, job.flat);
-    places::copy_within(work, saved + l, places, job.poles);
+    places::copy_within(work, flat, l, to);
+    places::copy_within(work, poles, n, behind);
 }
 
 // By the spread search below the poles of the refined fit that stands on l flat knots; else that fit.
@@ -140,11 +136,12 @@ fn make_fewer(
         (accepted (fewerOr (directionOf job (now (points .entry)) (now (work .entry)) (now (index .entry))) tolerance (some (candidateIn job (now (points .entry)) l (now (work .entry)) (now (index .entry))))))
         (now (work .entry)) (now (work .exit)) (now (index .entry)) (now (index .exit)) r ⌝ }
 {
-    save_fit(work, job, l, saved);
     let below = l - job.table.degree - 1;
+    let n = 3 * (job.given.lines * below);
+    copy_fit(work, l, n, job.flat, job.poles, saved, saved + l);
     match crate::counts::fit_on_spread_knots(work, index, points, job, tolerance, below) {
         Reached::Missed => {
-            restore_fit(work, job, l, saved);
+            copy_fit(work, l, n, saved, saved + l, job.flat, job.poles);
             Made::Stands(Standing {
                 mark: Mark::Refined(refined.largest),
                 flat: l,
