@@ -28,16 +28,18 @@ use Rattle.tables.specs.Interpolation.{interpolation, interpolatedLine, interpo
 use Rattle.tables.proofs.SpliceLaws.{length-points}
 use Rattle.tables.proofs.ThroughLaws.{length-substitute}
 use Rattle.bands.specs.BandLu.{factorBand}
-use Rattle.fitting.specs.declared.Answer.{Answer}
-use Rattle.fitting.specs.declared.Answer.the-variants.{Fitted}
-use Rattle.fitting.specs.declared.Call.{Call}
+use Rattle.ladders.specs.declared.Answer.{Answer}
+use Rattle.ladders.specs.declared.Answer.the-variants.{Fitted}
+use Rattle.checks.specs.declared.Call.{Call}
 use Rattle.fitting.specs.Within.{Candidate, Marked, interpolated, poleCount, candidate, interpolate, fitWithin, refinedOr, fitWithRefinedKnots}
 use Rattle.fitting.specs.Marks.{unmarked, markOf, fitOf}
-use Rattle.fitting.specs.Ladders.{Lent, Result, refused, accepted, pointCount, ladderChecks, fitBy, fitWith, ladderFit, checked, resultOf, answerOf, handed, handedPoles, handedKnots, handedMults, LadderCall}
-use Rattle.fitting.proofs.CheckLaws.{checks-give, count-under}
+use Rattle.checks.specs.LadderChecks.{Lent, pointCount, ladderChecks}
+use Rattle.making.specs.Results.{Result, refused, accepted, fitBy}
+use Rattle.ladders.specs.Ladders.{fitWith, ladderFit, checked, resultOf, answerOf, handed, handedPoles, handedKnots, handedMults, LadderCall}
+use Rattle.checks.proofs.CheckLaws.{checks-give, count-under}
 use Rattle.fitting.proofs.ToleranceLaws.{ladder-lawful, length-clamped}
-use Rattle.fitting.proofs.HandedLaws.{From, refined-from, taken}
-use Rattle.fitting.proofs.LadderLaws.{params-long, alone-cases}
+use Rattle.making.proofs.HandedLaws.{From, refined-from, taken, alone-cases}
+use Rattle.ladders.proofs.LadderLaws.{params-long}
 use Rattle.card_reader.specs.declared.Tolerance.{Tolerance}
 use Rattle.card_reader.specs.declared.Tolerance.the-variants.{Without, Within}
 use Rattle.card_printer.specs.Answer.{answerText}

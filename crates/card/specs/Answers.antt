@@ -9,13 +9,15 @@ use Rattle.geometry.specs.Doubles.{nought}
 use Rattle.bspline.specs.Refusals.{numberOf}
 use Rattle.knots.specs.Knots.{distinctKnots, knotAt, multiplicityAt}
 use Rattle.tables.specs.Deviations.{unreadable}
-use Rattle.fitting.specs.declared.Answer.{Answer}
-use Rattle.fitting.specs.declared.Answer.the-variants.{Fitted, Refused}
-use Rattle.fitting.specs.declared.Call.{Call}
-use Rattle.fitting.specs.declared.Call.the-variants.{Interpolate, ApproximateWithin}
+use Rattle.ladders.specs.declared.Answer.{Answer}
+use Rattle.ladders.specs.declared.Answer.the-variants.{Fitted, Refused}
+use Rattle.checks.specs.declared.Call.{Call}
+use Rattle.checks.specs.declared.Call.the-variants.{Interpolate, ApproximateWithin}
 use Rattle.fitting.specs.Within.{Marked}
 use Rattle.fitting.specs.Marks.{unmarked, markOf}
-use Rattle.fitting.specs.Ladders.{Lent, lent, Result, refused, accepted, resultOf}
+use Rattle.checks.specs.LadderChecks.{Lent, lent}
+use Rattle.making.specs.Results.{Result, refused, accepted}
+use Rattle.ladders.specs.Ladders.{resultOf}
 use Rattle.card_reader.specs.declared.Head.{Head}
 use Rattle.card_reader.specs.declared.Tolerance.{Tolerance}
 use Rattle.card_reader.specs.declared.Tolerance.the-variants.{Without, Within}

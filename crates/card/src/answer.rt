@@ -9,8 +9,8 @@ ghost use Rattle.card.specs.Answers.{callOf, FewIn, handedText, ladderTe
 use card_reader::Head;
 use card_reader::Judgement;
 use card_reader::Tolerance;
-use fitting::Answer;
-use fitting::Call;
+use checks::Call;
+use ladders::Answer;
 
 // `none` interpolates.
 fn call_of(tolerance: Tolerance) -> Call
@@ -60,7 +60,7 @@ fn fit_card(head: Head, points: &[f64], out: &mut [u8]) -> usize
     let spacing = head.spacing;
     let tolerance = head.tolerance;
     let call = call_of(tolerance);
-    let fitted = fitting::ladders::fit_ladder(
+    let fitted = ladders::fit_ladder(
         points,
         degree,
         spacing,

@@ -2,8 +2,8 @@
 use Prim.Native.Nat.{ℕ, _-_, _<_, _≤_}
 use mathlib.Core.Path.{_≡_}
 use mathlib.Core.Bool.{true, false}
-use mathlib.Core.List.{List}
-use mathlib.Core.Option.{Option, none}
+use mathlib.Core.List.{List, []}
+use mathlib.Core.Option.{Option, none, some}
 use lib.ListN.{length, getD}
 use lib.Ieee.{Float, nan, lt, le}
 use Rattle.tables.specs.Directions.{Direction}
@@ -34,3 +34,8 @@ pub record NeverMorePoles (d : Direction) : Type 0 where
       (t t′ : Float) → le t t′ ≡ true → (count : ℕ) (f : Candidate) → spreadAlone d t ≡ spread count f
       → (count′ : ℕ) × ((f′ : Candidate) × ((spreadAlone d t′ ≡ spread count′ f′) × (count′ ≤ count)))
   pub no-more : (t t′ : Float) → le t t′ ≡ true → poleCount (d .degree) (unmarked (spreadAlone d t′) .flat) ≤ poleCount (d .degree) (unmarked (spreadAlone d t) .flat)
+
+-- the parameters of a direction; none where its spacing gives none
+abbrev pub paramsOr : Option (List Float) → List Float
+paramsOr none = []
+paramsOr (some params) = params

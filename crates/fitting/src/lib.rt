@@ -1,15 +1,10 @@
-// Ladder fits: document 01, part 3 (refinement, the pole-count search, `interpolate`, `approximate`, `approximate_within`, the spread search alone).
+// Fits of one direction: document 01, part 3 (least squares on given and on spread knots, refinement, the pole-count search, interpolation).
 pub mod attempts;
-pub mod checks;
 pub mod counts;
-pub mod ladders;
-pub mod making;
-pub mod output;
 pub mod refining;
 
 ghost use mathlib.Core.Path.{_≡_};
 ghost use Rattle.fitting.specs.Marks.{largestDeviation, markNumber};
-use bspline::Refusal;
 use tables::Data;
 use tables::Measured;
 use tables::Table;
@@ -56,21 +51,6 @@ pub struct Fit {
     pub unreadable: usize,
 }
 
-pub enum Answer {
-    Fitted(Fit),
-    Refused(Refusal),
-}
-
-// The lengths of the lent slices.
-pub struct Room {
-    pub poles: usize,
-    pub flat: usize,
-    pub knots: usize,
-    pub mults: usize,
-    pub work: usize,
-    pub index: usize,
-}
-
 // The fitting of one direction in the lent slices: its table and data, for columns the table of the other direction, and where the work holds its
 // parameters, its flat knots, the band, the poles, for columns a curve's poles, the deviations by their squares, and new knots.
 pub struct Job {
@@ -103,31 +83,4 @@ pub enum Turn {
 pub enum Reached {
     Missed,
     Met(usize, Measured),
-}
-
-// Document 01's calls on a ladder: through the points, with a chosen pole count, within a tolerance, and the spread search alone.
-pub enum Call {
-    Interpolate,
-    Approximate(usize),
-    ApproximateWithin(f64),
-    SearchSpread(f64),
-}
-
-// What one direction of a grid is fitted to: a chosen pole count, or a tolerance with the fewer poles of refinement and the spread search.
-pub enum Aim {
-    Count(usize),
-    Within(f64),
-}
-
-// A fit that stands in its job's regions: its mark, how many flat knots it has, and how many of its deviations are unreadable.
-pub struct Standing {
-    pub mark: Mark,
-    pub flat: usize,
-    pub unreadable: usize,
-}
-
-// What a call makes of a direction.
-pub enum Made {
-    Fails(Refusal),
-    Stands(Standing),
 }

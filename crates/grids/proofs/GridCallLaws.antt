@@ -1,6 +1,5 @@
 -- The steps of a grid call: what each asks follows from the checks, and what the last hands out is the call's result. Assumes nothing.
 use mathlib.Core.Path.{_≡_, refl, sym, _∙_, ap, subst}
-use mathlib.Core.Bool.{Bool, not, true, false}
 use mathlib.Core.List.{List}
 use mathlib.Core.Option.{Option, none, some}
 use Prim.Native.Nat.{ℕ, _+_, _-_, _*_, _≤_, _<_}
@@ -11,7 +10,7 @@ use lib.Seq.{take-take}
 use lib.Ieee.{Float}
 use Rattle.places.specs.Regions.{part, splice}
 use Rattle.places.proofs.RegionLaws.{length-splice, part-splice, take-splice}
-use Rattle.geometry.specs.Doubles.{_⊗_, nought}
+use Rattle.geometry.specs.Doubles.{nought}
 use Rattle.bspline.specs.declared.Refusal.{Refusal}
 use Rattle.bspline.specs.declared.Refusal.the-variants.{PoleCountMismatch, ConfusedPoints}
 use Rattle.bspline.specs.declared.Verdict.{Verdict}
@@ -22,38 +21,39 @@ use Rattle.knots.specs.Parameters.{sharedParameters}
 use Rattle.knots.specs.Lines.{linesOf}
 use Rattle.knots.proofs.LineLaws.{rows-same, columns-same}
 use Rattle.tables.specs.BasisTable.{basisTable}
-use Rattle.tables.specs.Layout.{Kept, FillsTable}
+use Rattle.tables.specs.Layout.{FillsTable}
 use Rattle.tables.proofs.KeptLaws.{kept-part}
 use Rattle.fitting.specs.declared.Job.{Job}
-use Rattle.fitting.specs.declared.Standing.{Standing}
-use Rattle.fitting.specs.declared.Made.{Made}
-use Rattle.fitting.specs.declared.Made.the-variants.{Fails, Stands}
+use Rattle.making.specs.declared.Standing.{Standing}
+use Rattle.making.specs.declared.Made.{Made}
+use Rattle.making.specs.declared.Made.the-variants.{Fails, Stands}
 use Rattle.fitting.specs.Within.{Candidate, Marked, chosen, fitOnSpread}
 use Rattle.fitting.specs.Marks.{unmarked}
-use Rattle.fitting.specs.Ladders.{Result, refused, accepted, aimVerdict, chosenOr, fitTo, cleared, coordinatesVerdict}
-use Rattle.fitting.specs.HandedOut.{HasKnotsOut}
-use Rattle.fitting.specs.Jobs.{directionOf, HasJob, HasKnots}
-use Rattle.fitting.specs.Runs.{standingIn, madeIn, HasSaved, StandsIn, Makes}
+use Rattle.making.specs.Results.{chosenOr, fitTo}
+use Rattle.checks.specs.LadderChecks.{aimVerdict, cleared, coordinatesVerdict}
+use Rattle.fitting.specs.Jobs.{directionOf, HasJob}
+use Rattle.making.specs.Runs.{standingIn, madeIn, HasSaved, StandsIn, Makes}
 use Rattle.bspline.proofs.CheckLaws.{both-pass}
-use Rattle.fitting.proofs.CheckLaws.{aim-under}
+use Rattle.checks.proofs.CheckLaws.{aim-under}
 use Rattle.fitting.proofs.AttemptLaws.{fills, kept-filled, has-job-kept}
-use Rattle.grids.specs.declared.Shape.{Shape}
-use Rattle.grids.specs.declared.Call.{Call}
-use Rattle.grids.specs.declared.Call.the-variants.{Approximate, ApproximateWithin}
+use Rattle.checks.specs.declared.Shape.{Shape}
+use Rattle.checks.specs.declared.SurfaceCall.{SurfaceCall}
+use Rattle.checks.specs.declared.SurfaceCall.the-variants.{Approximate, ApproximateWithin}
 use Rattle.grids.specs.declared.GridAnswer.{GridAnswer}
-use Rattle.grids.specs.declared.GridAnswer.the-variants.{Fitted, Refused}
-use Rattle.grids.specs.Grids.{Grid, gridOf, GridLent, gridLent, gridRoomOf, GridResult, gridRefused, gridAccepted, GridShaped, GridRoomy, gridShapeVerdict, gridRoomVerdict, uParameters, vParameters, alongV, alongU, chosenU, chosenV, rowsWithin, fitGridBy, countsVerdict, gridChecked, gridFitWith, gridFit, gridChecks, gridResultOf, gridAnswerOf, gridAnswerNumber, gridResultNumber, gridHanded, HandsOutGrid, GridCall}
-use Rattle.grids.specs.GridRuns.{rowAim, columnAim, besideRows, afterRows, rowsJob, columnsJob, behind, uParamsIn, vParamsIn, rowsIn, columnsOver, rowsResult, Passed, countOf, knotsOf, placesOf, HasBoth, HandsBoth}
+use Rattle.grids.specs.declared.GridAnswer.the-variants.{Refused}
+use Rattle.checks.specs.GridChecks.{Grid, gridOf, GridLent, gridLent, gridRoomOf, GridShaped, GridRoomy, gridShapeVerdict, gridRoomVerdict, countsVerdict, gridChecks}
+use Rattle.grids.specs.Grids.{GridResult, gridRefused, gridAccepted, uParameters, vParameters, alongV, alongU, chosenU, chosenV, rowsWithin, fitGridBy, gridChecked, gridFitWith, gridFit, gridResultOf, gridAnswerOf, gridAnswerNumber, gridResultNumber, HandsOutGrid, GridCall}
+use Rattle.grids.specs.GridRuns.{rowAim, columnAim, besideRows, afterRows, rowsJob, columnsJob, behind, uParamsIn, vParamsIn, rowsIn, columnsOver, rowsResult, Passed, countOf, knotsOf, HasBoth, HandsBoth}
 use Rattle.grids.proofs.GridRunLaws.{has-rows-job, has-rows-saved, has-columns-job, has-columns-saved, n-most, n-least, still-long, has-other, columns-direction, grid-same, grid-refused, hands-grid}
 
 -- ---- both directions by their aims
 
-pub aims-pass : (call : Call) (h : Shape) → countsVerdict call h ≡ Pass → (aimVerdict (columnAim call) (h .rows) (h .u) ≡ Pass) × (aimVerdict (rowAim call) (h .cols) (h .v) ≡ Pass)
+pub aims-pass : (call : SurfaceCall) (h : Shape) → countsVerdict call h ≡ Pass → (aimVerdict (columnAim call) (h .rows) (h .u) ≡ Pass) × (aimVerdict (rowAim call) (h .cols) (h .v) ≡ Pass)
 unfolding countsVerdict aimVerdict columnAim rowAim
 aims-pass (Approximate m n) h e = both-pass _ _ e
 aims-pass (ApproximateWithin t) h e = both-pass _ _ e
 
-pub fit-by-aims : (call : Call) (g : Grid) (us vs : List Float)
+pub fit-by-aims : (call : SurfaceCall) (g : Grid) (us vs : List Float)
     → fitGridBy call g us vs ≡ afterRows (fitTo (rowAim call) (alongV (g .points) (g .shape) vs)) (λ v. fitTo (columnAim call) (alongU (g .points) (g .shape) us vs (unmarked v)))
 unfolding fitGridBy rowsWithin chosenU chosenV chosenOr unmarked afterRows besideRows fitTo rowAim columnAim
 fit-by-aims (Approximate m n) g us vs = by-rows (fitOnSpread (alongV (g .points) (g .shape) vs) n)
@@ -70,7 +70,7 @@ fit-by-aims (ApproximateWithin t) g us vs = refl
 
 -- ---- after the checks
 
-pub passed-given : (call : Call) (points : List Float) (h : Shape) (work : List Float) (index : List ℕ) {poles uFlat uKnots vFlat vKnots : List Float} {uMults vMults : List ℕ} → GridShaped (length points) h
+pub passed-given : (call : SurfaceCall) (points : List Float) (h : Shape) (work : List Float) (index : List ℕ) {poles uFlat uKnots vFlat vKnots : List Float} {uMults vMults : List ℕ} → GridShaped (length points) h
     → GridRoomy h (gridRoomOf (gridLent poles uFlat uKnots uMults vFlat vKnots vMults work index)) → countsVerdict call h ≡ Pass → (work′ : List Float) (index′ : List ℕ) → length work′ ≡ length work → length index′ ≡ length index
     → Passed call points h (gridLent poles uFlat uKnots uMults vFlat vKnots vMults work′ index′)
 passed-given call points h work index s r c work′ index′ e f =
@@ -91,7 +91,7 @@ passed-given call points h work index s r c work′ index′ e f =
       counts = c;
     }
 
-module _ (call : Call) (points w : List Float) (index : List ℕ) (h : Shape) {poles uFlat uKnots vFlat vKnots : List Float} {uMults vMults : List ℕ}
+module _ (call : SurfaceCall) (points w : List Float) (index : List ℕ) (h : Shape) {poles uFlat uKnots vFlat vKnots : List Float} {uMults vMults : List ℕ}
     (p : Passed call points h (gridLent poles uFlat uKnots uMults vFlat vKnots vMults w index)) where
   v-under : h .v < h .cols
   v-under = aim-under (rowAim call) (h .cols) (h .v) (aims-pass call h (p .counts) .1) (p .shaped .v-low)
@@ -239,7 +239,7 @@ module _ (h : Shape) (w ys : List Float) (long : length ys ≡ length w - h .row
       ∙ sym (take-take (h .cols) (length w - h .rows) (drop (h .rows) put) (omega arith))
       ∙ ap (take (h .cols)) (part-splice (h .rows) (length w) ys w (omega arith) (omega arith) long))
 
-module _ (call : Call) (points : List Float) (h : Shape) (v : Spacing) where
+module _ (call : SurfaceCall) (points : List Float) (h : Shape) (v : Spacing) where
   abbrev g : Grid
   g = gridOf points h v
 
@@ -290,7 +290,7 @@ module _ (call : Call) (points : List Float) (h : Shape) (v : Spacing) where
 
 -- ---- a whole call
 
-module _ (call : Call) (points : List Float) (h : Shape) (v : Spacing) where
+module _ (call : SurfaceCall) (points : List Float) (h : Shape) (v : Spacing) where
   pub grid-checks-are : (l : GridLent) (r : Verdict) → r ≡ (gridShapeVerdict (length points) h next gridRoomVerdict h (gridRoomOf l) next coordinatesVerdict points) → r ≡ gridChecks (gridOf points h v) (gridRoomOf l)
   unfolding gridChecks
   grid-checks-are l r e = e

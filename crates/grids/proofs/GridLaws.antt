@@ -23,21 +23,20 @@ use Rattle.knots.proofs.ParameterLaws.{unless-some, length-zero-to-one}
 use Rattle.tables.specs.BasisTable.{basisTable}
 use Rattle.tables.specs.Deviations.{gridDistances}
 use Rattle.tables.specs.Directions.{Direction, gridRows, gridColumns, transposed}
-use Rattle.fitting.specs.declared.Mark.{Mark}
 use Rattle.fitting.specs.declared.Mark.the-variants.{Refined, Spread}
 use Rattle.fitting.specs.Within.{Candidate, Marked, refined, spread, interpolated, poleCount, candidate, interpolate, fitWithRefinedKnots, fewerOr, fitWithinFewest, passesOnSpread}
 use Rattle.fitting.specs.Marks.{unmarked, fitOf}
 use Rattle.fitting.specs.Tolerance.{NoneAbove, Fails}
 use Rattle.fitting.proofs.ToleranceLaws.{Lawful, rows-lawful, columns-lawful, search-cases, spread-flat, poles-spread, length-clamped, within-fewest-kept}
-use Rattle.fitting.proofs.HandedLaws.{Sized, From, taken, spread-from, refined-from}
-use Rattle.fitting.proofs.LadderLaws.{alone-cases, refined-mark, spread-mark}
+use Rattle.making.proofs.HandedLaws.{Sized, From, taken, spread-from, refined-from, alone-cases, refined-mark, spread-mark}
 use Rattle.grids.specs.declared.GridFit.{GridFit}
 use Rattle.grids.specs.declared.GridAnswer.{GridAnswer}
 use Rattle.grids.specs.declared.GridAnswer.the-variants.{Fitted, Refused}
-use Rattle.grids.specs.declared.Call.the-variants.{ApproximateWithin}
-use Rattle.grids.specs.Grids.{Grid, GridLent, GridResult, gridRoomOf, gridChecks, GridShaped, GridRoomy, uParameters, vParameters, alongV, alongU, rowShare, rowsWithin, fitGridBy, countsVerdict, gridChecked, gridFitWith, gridFit, gridResultOf, gridAnswerOf, surfacePoles, gridHanded, GridCall, GridKept, ApproximatesGridWithin}
+use Rattle.checks.specs.declared.SurfaceCall.the-variants.{ApproximateWithin}
+use Rattle.checks.specs.GridChecks.{Grid, GridLent, gridRoomOf, gridChecks, GridShaped, GridRoomy, countsVerdict}
+use Rattle.grids.specs.Grids.{GridResult, uParameters, vParameters, alongV, alongU, rowShare, rowsWithin, fitGridBy, gridChecked, gridFitWith, gridFit, gridResultOf, gridAnswerOf, surfacePoles, gridHanded, GridCall, GridKept, ApproximatesGridWithin}
 use Rattle.grids.proofs.SurfaceLaws.{length-transposed}
-use Rattle.grids.proofs.GridCheckLaws.{Degrees, grid-gives, degrees-under}
+use Rattle.checks.proofs.GridCheckLaws.{Degrees, grid-gives, degrees-under}
 
 -- ---- a grid's direction: what its fit is, whatever the mark
 pub record Sound (d : Direction) (a : Marked) : Type 0 where

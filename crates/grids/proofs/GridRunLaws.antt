@@ -12,33 +12,31 @@ use Rattle.places.proofs.PlaceLaws.{length-listOf}
 use Rattle.places.proofs.RegionLaws.{length-part}
 use Rattle.geometry.specs.Doubles.{at, largest}
 use Rattle.bspline.specs.declared.Refusal.{Refusal}
-use Rattle.bspline.specs.declared.Verdict.the-variants.{Pass}
 use Rattle.knots.specs.Knots.{distinctKnots, knotAt, multiplicityAt}
 use Rattle.tables.specs.BasisTable.{BasisTable, basisTable, parameterCount}
 use Rattle.tables.specs.Deviations.{rowDistances, gridDistances, largestWithin, unreadable}
 use Rattle.tables.specs.Directions.{Direction, rowPoint, columnPoint, transposed, gridRows, gridColumns}
 use Rattle.tables.specs.Layout.{tableIn, dataPoint, Kept}
-use Rattle.tables.proofs.KeptLaws.{kept-part, kept-behind, kept-table, kept-wider, kept-then}
+use Rattle.tables.proofs.KeptLaws.{kept-part, kept-behind}
 use Rattle.fitting.specs.declared.Fit.{Fit}
-use Rattle.fitting.specs.declared.Aim.{Aim}
-use Rattle.fitting.specs.declared.Standing.{Standing}
-use Rattle.fitting.specs.declared.Made.{Made}
-use Rattle.fitting.specs.declared.Made.the-variants.{Fails, Stands}
-use Rattle.fitting.specs.Within.{Candidate, Marked, candidate, poleCount, tableOn}
+use Rattle.making.specs.declared.Standing.{Standing}
+use Rattle.making.specs.declared.Made.{Made}
+use Rattle.making.specs.declared.Made.the-variants.{Fails, Stands}
+use Rattle.fitting.specs.Within.{Candidate, Marked, candidate, poleCount}
 use Rattle.fitting.specs.Marks.{unmarked, markOf, fitOf}
-use Rattle.fitting.specs.Ladders.{Result, refused, accepted, fitTo}
-use Rattle.fitting.specs.HandedOut.{HandedKnots}
+use Rattle.making.specs.Results.{Result, fitTo}
 use Rattle.fitting.specs.Jobs.{distancesBy, deviationsBy, withinBy, directionOf, flatIn, polesIn, candidateIn, HasOther, HasJob, HasKnots}
-use Rattle.fitting.specs.Runs.{markedAs, standingIn, madeIn, HasSaved, StandsIn, Makes}
+use Rattle.making.specs.Runs.{standingIn, madeIn, HasSaved, StandsIn, Makes}
 use Rattle.fitting.specs.declared.Job.{Job}
-use Rattle.fitting.proofs.AttemptLaws.{fills, pole-count, table-is, has-table, kept-filled}
-use Rattle.fitting.proofs.RunLaws.{fit-same, unmarked-as, mark-as}
-use Rattle.grids.specs.declared.Shape.{Shape}
-use Rattle.grids.specs.declared.Call.{Call}
+use Rattle.fitting.proofs.AttemptLaws.{pole-count, table-is, has-table, kept-filled}
+use Rattle.making.proofs.MakeLaws.{fit-same, unmarked-as, mark-as}
+use Rattle.checks.specs.declared.Shape.{Shape}
+use Rattle.checks.specs.declared.SurfaceCall.{SurfaceCall}
 use Rattle.grids.specs.declared.GridFit.{GridFit}
 use Rattle.grids.specs.declared.GridAnswer.{GridAnswer}
 use Rattle.grids.specs.declared.GridAnswer.the-variants.{Fitted, Refused}
-use Rattle.grids.specs.Grids.{GridLent, gridLent, GridResult, gridRefused, gridAccepted, GridShaped, GridRoomy, workLength, indexLength, alongV, alongU, gridAnswerOf, surfacePoles, gridHanded, HandsOutGrid}
+use Rattle.checks.specs.GridChecks.{GridLent, gridLent, GridShaped, workLength, indexLength}
+use Rattle.grids.specs.Grids.{GridResult, gridRefused, gridAccepted, alongV, alongU, gridAnswerOf, surfacePoles, gridHanded, HandsOutGrid}
 use Rattle.grids.specs.GridRuns.{rowAim, columnAim, besideRows, afterRows, rowsJob, columnsJob, behind, uParamsIn, vParamsIn, rowsIn, columnsOver, rowsResult, countOf, knotsOf, placesOf, fitIn, HandsBoth}
 use Rattle.grids.proofs.SurfaceLaws.{length-transposed}
 
@@ -177,7 +175,7 @@ module _ (h : Shape) {poles uFlat uKnots vFlat vKnots : List Float} {uMults vMul
 
 -- ---- after the rows
 
-module _ (call : Call) (h : Shape) (points w : List Float) (index : List ℕ) (long : h .rows + h .cols ≤ length w) {w₁ : List Float} {index₁ : List ℕ} {r : Made}
+module _ (call : SurfaceCall) (h : Shape) (points w : List Float) (index : List ℕ) (long : h .rows + h .cols ≤ length w) {w₁ : List Float} {index₁ : List ℕ} {r : Made}
     (made : Makes (rowsJob h) points (fitTo (rowAim call) (directionOf (rowsJob h) points w index)) w w₁ index index₁ r) where
   rows-made : fitTo (rowAim call) (alongV points h (vParamsIn h w)) ≡ madeIn r (standingIn (rowsJob h) points w₁ index₁)
   rows-made = sym (ap (fitTo (rowAim call)) (rows-direction h points w index long)) ∙ made .answer

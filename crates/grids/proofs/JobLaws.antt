@@ -7,10 +7,10 @@ use native.Mathlib.Omega.{arith}
 use lib.Ieee.{Float}
 use Rattle.knots.specs.Knots.{distinctKnots}
 use Rattle.fitting.specs.declared.Job.{Job}
-use Rattle.fitting.specs.HandedOut.{HandedKnots}
-use Rattle.grids.specs.declared.Shape.{Shape}
+use Rattle.making.specs.HandedOut.{HandedKnots}
+use Rattle.checks.specs.declared.Shape.{Shape}
 use Rattle.grids.specs.GridRuns.{rowsJob}
-use Rattle.grids.proofs.GridCheckLaws.{points-few}
+use Rattle.checks.proofs.GridCheckLaws.{points-few}
 
 -- the products
 pub values-few : (count degree : ℕ) → count ≤ 64 → degree ≤ 25 → count * (degree + 1) ≤ 1664

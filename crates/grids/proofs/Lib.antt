@@ -1,5 +1,4 @@
--- What a grid that passes its checks has, and demand 3 of grids.
-pub mod GridCheckLaws
+-- The laws of the grid calls, and demand 3 of grids.
 pub mod SurfaceLaws
 pub mod JobLaws
 pub mod GridLaws

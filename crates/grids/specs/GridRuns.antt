@@ -11,28 +11,29 @@ use Rattle.bspline.specs.declared.Verdict.the-variants.{Pass}
 use Rattle.knots.specs.Knots.{distinctKnots}
 use Rattle.tables.specs.Directions.{transposed}
 use Rattle.fitting.specs.declared.Fit.{Fit}
-use Rattle.fitting.specs.declared.Aim.{Aim}
-use Rattle.fitting.specs.declared.Aim.the-variants.{Count, Within}
+use Rattle.checks.specs.declared.Aim.{Aim}
+use Rattle.checks.specs.declared.Aim.the-variants.{Count, Within}
 use Rattle.fitting.specs.declared.Job.{Job}
-use Rattle.fitting.specs.declared.Standing.{Standing}
+use Rattle.making.specs.declared.Standing.{Standing}
 use Rattle.fitting.specs.Within.{Marked}
 use Rattle.fitting.specs.Marks.{unmarked}
-use Rattle.fitting.specs.Ladders.{Result, refused, accepted, fitTo}
-use Rattle.fitting.specs.HandedOut.{HasKnotsOut, HandedKnots}
-use Rattle.fitting.specs.Runs.{standingIn}
-use Rattle.grids.specs.declared.Shape.{Shape}
+use Rattle.making.specs.Results.{Result, refused, accepted, fitTo}
+use Rattle.making.specs.HandedOut.{HasKnotsOut, HandedKnots}
+use Rattle.making.specs.Runs.{standingIn}
+use Rattle.checks.specs.declared.Shape.{Shape}
 use Rattle.grids.specs.declared.GridAnswer.{GridAnswer}
 use Rattle.grids.specs.declared.GridAnswer.the-variants.{Fitted}
-use Rattle.grids.specs.declared.Call.{Call}
-use Rattle.grids.specs.declared.Call.the-variants.{Approximate, ApproximateWithin}
-use Rattle.grids.specs.Grids.{GridResult, gridRefused, gridAccepted, GridLent, GridShaped, GridRoomy, gridRoomOf, rowShare, alongV, alongU, countsVerdict}
+use Rattle.checks.specs.declared.SurfaceCall.{SurfaceCall}
+use Rattle.checks.specs.declared.SurfaceCall.the-variants.{Approximate, ApproximateWithin}
+use Rattle.grids.specs.Grids.{GridResult, gridRefused, gridAccepted, rowShare, alongV, alongU}
+use Rattle.checks.specs.GridChecks.{GridLent, GridShaped, GridRoomy, gridRoomOf, countsVerdict}
 
 -- what the rows are fitted to along v, and the columns along u
-unfoldable pub rowAim : Call → Aim
+unfoldable pub rowAim : SurfaceCall → Aim
 rowAim (Approximate uCount vCount) = Count vCount
 rowAim (ApproximateWithin t) = Within (rowShare ⊗ t)
 
-unfoldable pub columnAim : Call → Aim
+unfoldable pub columnAim : SurfaceCall → Aim
 columnAim (Approximate uCount vCount) = Count uCount
 columnAim (ApproximateWithin t) = Within t
 
@@ -104,19 +105,19 @@ vParamsIn h work = part (h .rows) (h .rows + h .cols) work
 abbrev pub rowsIn : Shape → List Float → List Float → List ℕ → Standing → Marked
 rowsIn h points work index x = standingIn (rowsJob h) points work index x
 
-abbrev pub columnsOver : Call → Shape → List Float → List Float → List ℕ → Standing → GridResult
+abbrev pub columnsOver : SurfaceCall → Shape → List Float → List Float → List ℕ → Standing → GridResult
 columnsOver call h points work index x =
     let v = rowsIn h points work index x in
     besideRows v (fitTo (columnAim call) (alongU points h (uParamsIn h work) (vParamsIn h work) (unmarked v)))
 
 -- the rows' fit and the columns' over it
-abbrev pub rowsResult : Call → Shape → List Float → List Float → GridResult
+abbrev pub rowsResult : SurfaceCall → Shape → List Float → List Float → GridResult
 rowsResult call h points work =
     afterRows (fitTo (rowAim call) (alongV points h (vParamsIn h work)))
     (λ v. fitTo (columnAim call) (alongU points h (uParamsIn h work) (vParamsIn h work) (unmarked v)))
 
 -- what the checks gave
-pub record Passed (call : Call) (points : List Float) (h : Shape) (l : GridLent) : Type 0 where
+pub record Passed (call : SurfaceCall) (points : List Float) (h : Shape) (l : GridLent) : Type 0 where
   pub shaped : GridShaped (length points) h
   pub room : GridRoomy h (gridRoomOf l)
   pub counts : countsVerdict call h ≡ Pass

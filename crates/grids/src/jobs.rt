@@ -2,30 +2,30 @@
 ghost use mathlib.Core.Path.{_≡_};
 ghost use Prim.Native.Nat.{_≤_};
 ghost use Rattle.grids.specs.GridRuns.{rowAim, columnAim, rowsJob, columnsJob};
-use crate::Call;
-use crate::Shape;
-use fitting::Aim;
+use checks::Aim;
+use checks::Shape;
+use checks::SurfaceCall;
 use fitting::Job;
 use tables::Data;
 use tables::Table;
 
 // What the rows are fitted to along v.
-pub fn row_aim(call: Call) -> Aim
+pub fn row_aim(call: SurfaceCall) -> Aim
     ensures { λ r. ⌜ r ≡ rowAim call ⌝ }
 {
     match call {
-        Call::Approximate(_, count) => Aim::Count(count),
-        Call::ApproximateWithin(tolerance) => Aim::Within(0.8 * tolerance),
+        SurfaceCall::Approximate(_, count) => Aim::Count(count),
+        SurfaceCall::ApproximateWithin(tolerance) => Aim::Within(0.8 * tolerance),
     }
 }
 
 // What the columns are fitted to along u.
-pub fn column_aim(call: Call) -> Aim
+pub fn column_aim(call: SurfaceCall) -> Aim
     ensures { λ r. ⌜ r ≡ columnAim call ⌝ }
 {
     match call {
-        Call::Approximate(count, _) => Aim::Count(count),
-        Call::ApproximateWithin(tolerance) => Aim::Within(tolerance),
+        SurfaceCall::Approximate(count, _) => Aim::Count(count),
+        SurfaceCall::ApproximateWithin(tolerance) => Aim::Within(tolerance),
     }
 }
 

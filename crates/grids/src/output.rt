@@ -12,7 +12,7 @@ use crate::GridAnswer;
 use crate::GridFit;
 use fitting::Fit;
 use fitting::Job;
-use fitting::Standing;
+use making::Standing;
 
 // Pole k of each of the columns, whose `count` poles each stand column after column from place `a` of the work on.
 fn surface_row(work: &[f64], a: usize, columns: usize, count: usize, k: usize, row: &mut [f64])
@@ -64,8 +64,8 @@ pub fn hand_both(
     let m = y.flat - p - 1;
     let n = x.flat - q - 1;
     surface_poles(work, columns.poles, n, m, poles);
-    let u = fitting::output::hand_knots(work, columns.flat, m, p, uflat, uknots, umults);
-    let v = fitting::output::hand_knots(work, rows.flat, n, q, vflat, vknots, vmults);
+    let u = making::output::hand_knots(work, columns.flat, m, p, uflat, uknots, umults);
+    let v = making::output::hand_knots(work, rows.flat, n, q, vflat, vknots, vmults);
     let mark = y.mark;
     let other = x.mark;
     GridAnswer::Fitted(GridFit {

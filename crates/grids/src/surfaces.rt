@@ -1,25 +1,26 @@
 // The grid calls: their checks, both directions' parameters, the rows' fit, the columns' fit over it, and then work and index cleared.
 ghost use mathlib.Core.Path.{_≡_};
 ghost use lib.ListN.{length};
-ghost use Rattle.fitting.specs.Runs.{StandsIn};
-ghost use Rattle.grids.specs.Grids.{gridOf, gridLent, gridRoomOf, GridShaped, GridRoomy, gridFit, HandsOutGrid, GridCall, ApproximatesGrid, ApproximatesGridWithin};
+ghost use Rattle.making.specs.Runs.{StandsIn};
+ghost use Rattle.checks.specs.GridChecks.{gridOf, gridLent, gridRoomOf, GridShaped, GridRoomy};
+ghost use Rattle.grids.specs.Grids.{gridFit, HandsOutGrid, GridCall, ApproximatesGrid, ApproximatesGridWithin};
 ghost use Rattle.grids.specs.GridRuns.{rowsJob, rowsResult, columnsOver, Passed};
-use crate::Call;
 use crate::GridAnswer;
-use crate::GridRoom;
-use crate::Shape;
 use bspline::Refusal;
 use bspline::Verdict;
+use checks::GridRoom;
+use checks::Shape;
+use checks::SurfaceCall;
 use fitting::Job;
-use fitting::Made;
-use fitting::Standing;
 use knots::Spacing;
+use making::Made;
+use making::Standing;
 
 // The columns' fit over the rows' fit x, which stands in the work.
 fn fit_columns(
     points: &[f64],
     shape: Shape,
-    call: Call,
+    call: SurfaceCall,
     rows: Job,
     x: Standing,
     poles: &mut [f64],
@@ -42,7 +43,7 @@ fn fit_columns(
     tables::basis_table::fill_table(work, index, rows.table, flat, flat + x.flat, rows.params);
     let columns = crate::jobs::columns_job(shape, rows, x.flat - shape.v - 1);
     let saved = columns.fresh + shape.rows;
-    match fitting::making::make_direction(
+    match making::make_direction(
         work,
         index,
         points,
@@ -72,7 +73,7 @@ fn fit_columns(
 fn fit_rows(
     points: &[f64],
     shape: Shape,
-    call: Call,
+    call: SurfaceCall,
     poles: &mut [f64],
     uflat: &mut [f64],
     uknots: &mut [f64],
@@ -90,14 +91,7 @@ fn fit_rows(
 {
     let rows = crate::jobs::rows_job(shape);
     let saved = rows.fresh + shape.cols;
-    match fitting::making::make_direction(
-        work,
-        index,
-        points,
-        rows,
-        crate::jobs::row_aim(call),
-        saved,
-    ) {
+    match making::make_direction(work, index, points, rows, crate::jobs::row_aim(call), saved) {
         Made::Fails(c) => GridAnswer::Refused(c),
         Made::Stands(x) => fit_columns(
             points,
@@ -123,7 +117,7 @@ fn fit_passed(
     points: &[f64],
     shape: Shape,
     spacing: Spacing,
-    call: Call,
+    call: SurfaceCall,
     poles: &mut [f64],
     uflat: &mut [f64],
     uknots: &mut [f64],
@@ -155,7 +149,7 @@ fn fit_passed(
     ) {
         return GridAnswer::Refused(Refusal::ConfusedPoints);
     }
-    match crate::checks::check_counts(call, shape) {
+    match checks::grid::check_counts(call, shape) {
         Verdict::Stop(c) => GridAnswer::Refused(c),
         Verdict::Pass => fit_rows(
             points,
@@ -179,7 +173,7 @@ pub fn fit_grid(
     points: &[f64],
     shape: Shape,
     spacing: Spacing,
-    call: Call,
+    call: SurfaceCall,
     poles: &mut [f64],
     uflat: &mut [f64],
     uknots: &mut [f64],
@@ -205,7 +199,7 @@ pub fn fit_grid(
         work: work.len(),
         index: index.len(),
     };
-    match crate::checks::check_grid(points, shape, room) {
+    match checks::grid::check_grid(points, shape, room) {
         Verdict::Stop(c) => GridAnswer::Refused(c),
         Verdict::Pass => {
             let r = fit_passed(
@@ -251,7 +245,7 @@ pub fn approximate(
         (gridLent (now (poles .entry)) (now (uflat .entry)) (now (uknots .entry)) (now (umults .entry)) (now (vflat .entry)) (now (vknots .entry)) (now (vmults .entry)) (now (work .entry)) (now (index .entry)))
         (gridLent (now (poles .exit)) (now (uflat .exit)) (now (uknots .exit)) (now (umults .exit)) (now (vflat .exit)) (now (vknots .exit)) (now (vmults .exit)) (now (work .exit)) (now (index .exit))) r ⌝ }
 {
-    let call = Call::Approximate(ucount, vcount);
+    let call = SurfaceCall::Approximate(ucount, vcount);
     fit_grid(
         points,
         shape,
@@ -289,7 +283,7 @@ pub fn approximate_within(
         (gridLent (now (poles .entry)) (now (uflat .entry)) (now (uknots .entry)) (now (umults .entry)) (now (vflat .entry)) (now (vknots .entry)) (now (vmults .entry)) (now (work .entry)) (now (index .entry)))
         (gridLent (now (poles .exit)) (now (uflat .exit)) (now (uknots .exit)) (now (umults .exit)) (now (vflat .exit)) (now (vknots .exit)) (now (vmults .exit)) (now (work .exit)) (now (index .exit))) r ⌝ }
 {
-    let call = Call::ApproximateWithin(tolerance);
+    let call = SurfaceCall::ApproximateWithin(tolerance);
     fit_grid(
         points,
         shape,

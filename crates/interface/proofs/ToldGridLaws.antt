@@ -12,11 +12,12 @@ use Rattle.geometry.specs.Doubles.{nought}
 use Rattle.bspline.specs.declared.Refusal.{Refusal}
 use Rattle.bspline.specs.declared.Verdict.{Verdict}
 use Rattle.bspline.specs.declared.Verdict.the-variants.{Pass, Stop}
-use Rattle.fitting.specs.Ladders.{cleared}
-use Rattle.grids.specs.declared.Call.{Call}
+use Rattle.checks.specs.LadderChecks.{cleared}
+use Rattle.checks.specs.declared.SurfaceCall.{SurfaceCall}
 use Rattle.grids.specs.declared.GridAnswer.{GridAnswer}
-use Rattle.grids.specs.Grids.{Grid, GridLent, gridRoomOf, GridResult, gridRefused, gridFit, gridChecked, gridChecks, gridResultOf, gridResultNumber, gridAnswerOf, gridAnswerNumber, GridCall}
-use Rattle.grids.proofs.GridCheckLaws.{grid-gives}
+use Rattle.checks.specs.GridChecks.{Grid, GridLent, gridRoomOf, gridChecks}
+use Rattle.grids.specs.Grids.{GridResult, gridRefused, gridFit, gridChecked, gridResultOf, gridResultNumber, gridAnswerOf, gridAnswerNumber, GridCall}
+use Rattle.checks.proofs.GridCheckLaws.{grid-gives}
 use Rattle.grids.proofs.GridRunLaws.{grid-refused}
 use Rattle.interface.specs.ToldGrid.{tellableGrid, noGrid, toldGridLargest, toldGridCounts, ToldGridBy, ToldGrid}
 
@@ -32,7 +33,7 @@ pub enough : (largest : List Float) (counts : List ℕ) → 2 ≤ length largest
 enough largest counts h k =
     ap (λ (b : Bool). not b && not (ltb (length counts) 8)) (le-ltb (length largest) 2 h) ∙ ap not (le-ltb (length counts) 8 k)
 
-module _ (call : Call) (g : Grid) where
+module _ (call : SurfaceCall) (g : Grid) where
   -- with nothing lent the checks stop
   pub stops : gridChecks g (gridRoomOf noGrid) ≡ Pass → ⊥
   stops e = let r = grid-gives g (gridRoomOf noGrid) e in omega (arith, r .1 .for-work)

@@ -13,10 +13,12 @@ use Rattle.bspline.specs.declared.Refusal.{Refusal}
 use Rattle.bspline.specs.declared.Verdict.{Verdict}
 use Rattle.bspline.specs.declared.Verdict.the-variants.{Pass, Stop}
 use Rattle.knots.specs.declared.Spacing.{Spacing}
-use Rattle.fitting.specs.declared.Call.{Call}
-use Rattle.fitting.specs.declared.Answer.{Answer}
-use Rattle.fitting.specs.Ladders.{Lent, Result, refused, fitBy, ladderFit, checked, resultOf, resultNumber, answerOf, answerNumber, ladderChecks, handed, handedPoles, handedFlat, handedKnots, handedMults, cleared, LadderCall}
-use Rattle.fitting.proofs.CheckLaws.{checks-give}
+use Rattle.checks.specs.declared.Call.{Call}
+use Rattle.ladders.specs.declared.Answer.{Answer}
+use Rattle.checks.specs.LadderChecks.{Lent, ladderChecks, cleared}
+use Rattle.making.specs.Results.{Result, refused, fitBy}
+use Rattle.ladders.specs.Ladders.{ladderFit, checked, resultOf, resultNumber, answerOf, answerNumber, handed, handedPoles, handedFlat, handedKnots, handedMults, LadderCall}
+use Rattle.checks.proofs.CheckLaws.{checks-give}
 use Rattle.interface.specs.Told.{tellable, nothing, toldLargest, toldCounts, ToldBy, Told}
 
 -- the room that the slices have

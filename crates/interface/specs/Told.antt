@@ -13,12 +13,13 @@ use Rattle.bspline.specs.declared.Reading.the-variants.{Read, Refused as Unread
 use Rattle.bspline.specs.Reader.{readingNumber}
 use Rattle.knots.specs.declared.Spacing.{Spacing}
 use Rattle.knots.specs.declared.Spacing.the-variants.{Chordal, Centripetal}
-use Rattle.fitting.specs.declared.Call.{Call}
+use Rattle.checks.specs.declared.Call.{Call}
 use Rattle.fitting.specs.declared.Fit.{Fit}
-use Rattle.fitting.specs.declared.Answer.{Answer}
-use Rattle.fitting.specs.declared.Answer.the-variants.{Fitted, Refused}
+use Rattle.ladders.specs.declared.Answer.{Answer}
+use Rattle.ladders.specs.declared.Answer.the-variants.{Fitted, Refused}
 use Rattle.fitting.specs.Marks.{largestDeviation, markNumber}
-use Rattle.fitting.specs.Ladders.{Lent, lent, resultOf, resultNumber, answerOf, ladderChecks, cleared, HandsOut}
+use Rattle.checks.specs.LadderChecks.{Lent, lent, ladderChecks, cleared}
+use Rattle.ladders.specs.Ladders.{resultOf, resultNumber, answerOf, HandsOut}
 
 -- 0 is chordal, any other number centripetal
 abbrev pub spacingOf : ℕ → Spacing

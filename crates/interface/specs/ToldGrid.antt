@@ -8,12 +8,13 @@ use lib.ListN.{length, set}
 use lib.Ieee.{Float}
 use Rattle.geometry.specs.Doubles.{nought}
 use Rattle.fitting.specs.Marks.{largestDeviation}
-use Rattle.fitting.specs.Ladders.{cleared}
-use Rattle.grids.specs.declared.Shape.{Shape}
-use Rattle.grids.specs.declared.Call.{Call}
+use Rattle.checks.specs.LadderChecks.{cleared}
+use Rattle.checks.specs.declared.Shape.{Shape}
+use Rattle.checks.specs.declared.SurfaceCall.{SurfaceCall}
 use Rattle.grids.specs.declared.GridAnswer.{GridAnswer}
 use Rattle.grids.specs.declared.GridAnswer.the-variants.{Fitted, Refused}
-use Rattle.grids.specs.Grids.{Grid, GridLent, gridLent, gridRoomOf, gridChecks, gridResultOf, gridResultNumber, gridAnswerOf, HandsOutGrid}
+use Rattle.checks.specs.GridChecks.{Grid, GridLent, gridLent, gridRoomOf, gridChecks}
+use Rattle.grids.specs.Grids.{gridResultOf, gridResultNumber, gridAnswerOf, HandsOutGrid}
 use Rattle.interface.specs.Told.{putFit}
 
 -- rows and columns of points, and the degrees along u and v
@@ -41,7 +42,7 @@ toldGridCounts (Refused c) xs = xs
 toldGridCounts (Fitted f) xs = putFit 4 (f .v) (putFit 0 (f .u) xs)
 
 -- What a grid call for C leaves, judged by the slices m.
-pub record ToldGridBy (m : GridLent) (call : Call) (g : Grid) (l l′ : GridLent) (largest largest′ : List Float) (counts counts′ : List ℕ) (r : ℕ) : Type 0 where
+pub record ToldGridBy (m : GridLent) (call : SurfaceCall) (g : Grid) (l l′ : GridLent) (largest largest′ : List Float) (counts counts′ : List ℕ) (r : ℕ) : Type 0 where
   pub number : r ≡ gridResultNumber (gridResultOf call g m)
   pub hands : HandsOutGrid (g .shape) (gridResultOf call g m) l l′ (gridAnswerOf (g .shape) (gridResultOf call g m))
   pub work : l′ .work ≡ cleared nought (gridChecks g (gridRoomOf m)) (l .work)
@@ -50,5 +51,5 @@ pub record ToldGridBy (m : GridLent) (call : Call) (g : Grid) (l l′ : GridLent
   pub told : counts′ ≡ toldGridCounts (gridAnswerOf (g .shape) (gridResultOf call g m)) counts
 
 -- The contract of a grid call for C.
-abbrev pub ToldGrid : Call → Grid → GridLent → GridLent → List Float → List Float → List ℕ → List ℕ → ℕ → Type 0
+abbrev pub ToldGrid : SurfaceCall → Grid → GridLent → GridLent → List Float → List Float → List ℕ → List ℕ → ℕ → Type 0
 ToldGrid call g l l′ largest largest′ counts counts′ r = ToldGridBy (judgedGrid l largest counts) call g l l′ largest largest′ counts counts′ r

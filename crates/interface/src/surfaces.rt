@@ -2,17 +2,18 @@
 ghost use mathlib.Core.Path.{_≡_};
 ghost use Prim.Native.Nat.{_≤_};
 ghost use lib.ListN.{length};
-ghost use Rattle.grids.specs.declared.Call.the-variants.{Approximate, ApproximateWithin};
-ghost use Rattle.grids.specs.Grids.{gridOf, gridLent, gridAnswerNumber, gridResultNumber, gridResultOf};
+ghost use Rattle.checks.specs.declared.SurfaceCall.the-variants.{Approximate, ApproximateWithin};
+ghost use Rattle.checks.specs.GridChecks.{gridOf, gridLent};
+ghost use Rattle.grids.specs.Grids.{gridAnswerNumber, gridResultNumber, gridResultOf};
 ghost use Rattle.interface.specs.Told.{spacingOf};
 ghost use Rattle.interface.specs.ToldGrid.{shapeOf, toldGridLargest, toldGridCounts, noGrid, ToldGrid};
-use crate::ladders::spacing_of;
-use crate::ladders::tell_fit;
+use crate::curves::spacing_of;
+use crate::curves::tell_fit;
 use bspline::Verdict;
-use grids::Call;
+use checks::GridRoom;
+use checks::Shape;
+use checks::SurfaceCall;
 use grids::GridAnswer;
-use grids::GridRoom;
-use grids::Shape;
 use knots::Spacing;
 
 // The number of an answer, with both marks and counts of a fit in the lent slices.
@@ -35,7 +36,7 @@ fn tell_grid(answer: GridAnswer, largest: &mut [f64], counts: &mut [usize]) -> u
 }
 
 // The number of a call that has no room for its answer.
-fn grid_without_room(points: &[f64], shape: Shape, spacing: Spacing, call: Call) -> u32
+fn grid_without_room(points: &[f64], shape: Shape, spacing: Spacing, call: SurfaceCall) -> u32
     ensures { λ r. ⌜ r ≡ gridResultNumber (gridResultOf call (gridOf (now (points .entry)) shape spacing) noGrid) ⌝ }
 {
     let room = GridRoom {
@@ -49,7 +50,7 @@ fn grid_without_room(points: &[f64], shape: Shape, spacing: Spacing, call: Call)
         work: 0,
         index: 0,
     };
-    match grids::checks::check_grid(points, shape, room) {
+    match checks::grid::check_grid(points, shape, room) {
         Verdict::Stop(c) => c.number(),
         Verdict::Pass => 9,
     }
@@ -59,7 +60,7 @@ fn call_grid(
     points: &[f64],
     shape: Shape,
     spacing: Spacing,
-    call: Call,
+    call: SurfaceCall,
     poles: &mut [f64],
     uflat: &mut [f64],
     uknots: &mut [f64],
@@ -135,7 +136,7 @@ pub extern "C" fn nigorzai_approximate_grid(
         u: udegree,
         v: vdegree,
     };
-    let call = Call::Approximate(ucount, vcount);
+    let call = SurfaceCall::Approximate(ucount, vcount);
     call_grid(
         points,
         shape,
@@ -188,7 +189,7 @@ pub extern "C" fn nigorzai_approximate_grid_within(
         u: udegree,
         v: vdegree,
     };
-    let call = Call::ApproximateWithin(tolerance);
+    let call = SurfaceCall::ApproximateWithin(tolerance);
     call_grid(
         points,
         shape,

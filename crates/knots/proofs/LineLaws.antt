@@ -1,13 +1,14 @@
 -- The lines of a ladder and of a grid: their points, and the parameters that depend on nothing else. Assumes nothing.
-use mathlib.Core.Path.{_≡_, ap}
-use mathlib.Core.Bool.{Bool, cond, _||_}
+use mathlib.Core.Path.{_≡_, ap, _∙_}
+use mathlib.Core.Bool.{Bool, true, false, cond, not, _||_}
 use mathlib.Core.List.{List}
-use mathlib.Core.Option.{none, some}
+use mathlib.Core.Option.{Option, none, some}
 use Prim.Native.Nat.{ℕ, _+_, _-_, _*_, _^_, _<_, _≤_}
 use native.Mathlib.Omega.{arith}
 use lib.Dec.{eqb}
-use lib.ListN.{length}
+use lib.ListN.{length, take}
 use lib.Ieee.{Float, le}
+use borrow.Author.Tests.{not-true, not-false}
 use Rattle.places.specs.Places.{someBelow}
 use Rattle.places.proofs.LoopLaws.{each-cong}
 use Rattle.places.proofs.PlaceLaws.{listOf-same, row-in}
@@ -17,7 +18,7 @@ use Rattle.geometry.specs.Points.{pointAt}
 use Rattle.knots.specs.declared.Spacing.{Spacing}
 use Rattle.knots.specs.Parameters.{confusion, chords, stepSums, fromZeroToOne, pointParameters, Lines, addLine, addedLines, sharedParameters}
 use Rattle.knots.specs.Lines.{lineOf, linesOf}
-use Rattle.knots.specs.Calls.{HasLine, HasLines}
+use Rattle.knots.specs.Calls.{HasLines, Found}
 use Rattle.knots.proofs.ParameterLaws.{unless-some, length-zero-to-one, zero-to-one-ends}
 
 -- ---- only the points below the count matter
@@ -84,3 +85,12 @@ shared-ends v lines n point params h e =
     let added : Lines = addedLines v lines n point in
     let g : ℕ → Float = λ k. at (added .sums) k ⊗ (one ⊘ double (added .used)) in
     ends n g (eqb (added .used) 0 || someBelow (n - 1) (λ k. le (at (fromZeroToOne n g) (k + 1)) (at (fromZeroToOne n g) k))) params h e
+
+-- ---- what a spacing that answers has found
+
+module _ {o : Option (List Float)} {n m : ℕ} {out out′ : List Float} {r : Bool} (f : Found o n m out out′ r) where
+  pub found-none : not r ≡ true → o ≡ none
+  found-none e = f .answer ∙ ap (λ (b : Bool). cond b (some (take n out′)) none) (not-true r e)
+
+  pub found-some : not r ≡ false → o ≡ some (take n out′)
+  found-some e = f .answer ∙ ap (λ (b : Bool). cond b (some (take n out′)) none) (not-false r e)

@@ -9,8 +9,8 @@ use Rattle.places.specs.Places.{allBelow}
 use Rattle.geometry.specs.Doubles.{at}
 use Rattle.bspline.specs.Refusals.{numberOf}
 use Rattle.fitting.specs.declared.Fit.{Fit}
-use Rattle.fitting.specs.declared.Answer.{Answer}
-use Rattle.fitting.specs.declared.Answer.the-variants.{Fitted, Refused}
+use Rattle.ladders.specs.declared.Answer.{Answer}
+use Rattle.ladders.specs.declared.Answer.the-variants.{Fitted, Refused}
 use Rattle.fitting.specs.Marks.{largestDeviation, markNumber}
 use Rattle.replay.specs.declared.answers.ListedFit.{ListedFit}
 use Rattle.replay.specs.declared.answers.Listed.{Listed}

@@ -8,8 +8,8 @@ use lib.ListN.{length, getD}
 use lib.Ieee.{Float, binary64, ofBits}
 use Rattle.knots.specs.declared.Spacing.{Spacing}
 use Rattle.knots.specs.declared.Spacing.the-variants.{Chordal, Centripetal}
-use Rattle.fitting.specs.declared.Call.{Call}
-use Rattle.fitting.specs.declared.Call.the-variants.{Interpolate, Approximate, ApproximateWithin, SearchSpread}
+use Rattle.checks.specs.declared.Call.{Call}
+use Rattle.checks.specs.declared.Call.the-variants.{Interpolate, Approximate, ApproximateWithin, SearchSpread}
 use Rattle.replay.specs.declared.cases.Case.{Case}
 use Rattle.replay.specs.declared.cases.Found.{Found}
 use Rattle.replay.specs.declared.cases.Found.the-variants as found

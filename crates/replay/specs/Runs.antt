@@ -8,9 +8,10 @@ use lib.Dec.{eqb, ltb}
 use lib.ListN.{length}
 use lib.Ieee.{Float}
 use Rattle.places.specs.Places.{listOf}
-use Rattle.fitting.specs.declared.Room.{Room}
-use Rattle.fitting.specs.declared.Answer.{Answer}
-use Rattle.fitting.specs.Ladders.{Lent, LadderCall}
+use Rattle.checks.specs.declared.Room.{Room}
+use Rattle.ladders.specs.declared.Answer.{Answer}
+use Rattle.checks.specs.LadderChecks.{Lent}
+use Rattle.ladders.specs.Ladders.{LadderCall}
 use Rattle.replay.specs.declared.cases.Case.{Case}
 use Rattle.replay.specs.declared.runs.Turn.{Turn}
 use Rattle.replay.specs.declared.runs.Turn.the-variants as turn

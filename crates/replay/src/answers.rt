@@ -6,8 +6,8 @@ ghost use Rattle.replay.specs.Compared.{refusedWith, sameTold, sameValue
 ghost use Rattle.replay.specs.Listed.{listedAt, Within, Held};
 use crate::doubles::same_doubles;
 use crate::doubles::same_numbers;
-use fitting::Answer;
 use fitting::Fit;
+use ladders::Answer;
 
 // A fit as the list has it. Its values start at `values`, and after them stands the next case.
 pub struct ListedFit {

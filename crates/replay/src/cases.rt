@@ -5,7 +5,7 @@ ghost use Prim.Native.Nat.{_≤_, _<_};
 ghost use lib.ListN.{length};
 ghost use Rattle.places.specs.Places.{laid};
 ghost use Rattle.replay.specs.Listed.{callOf, spacingOf, FoundAt, Placed, givenAt, placeAt};
-use fitting::Call;
+use checks::Call;
 use knots::Spacing;
 
 // `count` places, of which the words from `start` on give `given`.

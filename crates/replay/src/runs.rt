@@ -2,15 +2,15 @@
 ghost use mathlib.Core.Path.{_≡_};
 ghost use Prim.Native.Nat.{_≤_};
 ghost use lib.ListN.{length, take, getD};
-ghost use Rattle.fitting.specs.Ladders.{lent};
+ghost use Rattle.checks.specs.LadderChecks.{lent};
 ghost use Rattle.replay.specs.Listed.{listedAt, Placed};
 ghost use Rattle.replay.specs.Compared.{turnOf, compared};
 ghost use Rattle.replay.specs.Runs.{capped as cappedAt, needed, Fits, Lending, Ran, RanOn, TurnAt, firstOf, TalliedAs};
 use crate::answers::Listed;
 use crate::cases::Case;
 use crate::cases::Found;
-use fitting::Answer;
-use fitting::Room;
+use checks::Room;
+use ladders::Answer;
 
 // One case: whether the answers are the same, with the place of the next case.
 pub enum Turn {
@@ -115,7 +115,7 @@ fn run_case(
     let call = case.call;
     let spacing = case.spacing;
     let degree = case.degree;
-    let answer = fitting::ladders::fit_ladder(
+    let answer = ladders::fit_ladder(
         points,
         degree,
         spacing,

@@ -11,7 +11,7 @@ use Rattle.card.proofs.answer.fit_card.Reads as reads
 use Rattle.card.proofs.answer.fit_card.Lts as lts
 use Rattle.card.proofs.answer.call_of.Reads as call-of-reads
 use Rattle.card.proofs.answer.put_handed.Reads as put-handed-reads
-use Rattle.fitting.proofs.ladders.fit_ladder.Reads as fit-ladder-reads
+use Rattle.ladders.proofs.fit_ladder.Reads as fit-ladder-reads
 
 call-of-requires : tie.Need-call-of-requires
 call-of-requires c κs = search needs

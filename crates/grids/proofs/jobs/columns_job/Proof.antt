@@ -1,6 +1,6 @@
 -- The numbers are small: the rows' regions end below 17371, and each product is bounded. Assumes nothing.
 use native.Mathlib.Omega.{arith}
-use Rattle.grids.proofs.GridCheckLaws.{points-few}
+use Rattle.checks.proofs.GridCheckLaws.{points-few}
 use Rattle.grids.proofs.JobLaws.{values-few, band-few, job-poles-few, job-curve-few}
 use borrow.Author.Needs.{needs}
 use Rattle.grids.proofs.jobs.columns_job.Statement.{statement}

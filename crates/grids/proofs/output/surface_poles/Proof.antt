@@ -8,7 +8,7 @@ use Rattle.places.specs.Places.{joined}
 use Rattle.places.specs.Regions.{part}
 use Rattle.places.proofs.PlaceLaws.{joined-next}
 use Rattle.places.proofs.RegionLaws.{length-part}
-use Rattle.grids.proofs.GridCheckLaws.{points-few}
+use Rattle.checks.proofs.GridCheckLaws.{points-few}
 use Rattle.grids.proofs.SurfaceLaws.{surfaceRow, length-row, row-within, rows-start, row-only, surface-whole}
 use borrow.Author.Needs.{needs}
 use Rattle.grids.proofs.output.surface_poles.Statement.{statement}

@@ -12,7 +12,7 @@ use Rattle.places.proofs.RegionLaws.{length-part}
 use Rattle.geometry.specs.declared.Point.{Point}
 use Rattle.geometry.specs.Points.{pointAt, pointsOf, putPoint}
 use Rattle.tables.proofs.SpliceLaws.{points-next}
-use Rattle.grids.proofs.GridCheckLaws.{points-few, place-below}
+use Rattle.checks.proofs.GridCheckLaws.{points-few, place-below}
 use borrow.Author.Needs.{needs}
 use Rattle.grids.proofs.output.surface_row.Statement.{statement}
 use Rattle.grids.proofs.output.surface_row.Tie as tie

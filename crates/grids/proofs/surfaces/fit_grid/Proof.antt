@@ -3,8 +3,8 @@ use mathlib.Core.Path.{_≡_, sym, _∙_, ap}
 use Prim.Native.Nat.{ℕ}
 use lib.ListN.{length, replicate}
 use Rattle.geometry.specs.Doubles.{nought}
-use Rattle.grids.specs.Grids.{gridOf, gridLent, gridRoomOf}
-use Rattle.grids.proofs.GridCheckLaws.{grid-gives}
+use Rattle.checks.specs.GridChecks.{gridOf, gridLent, gridRoomOf}
+use Rattle.checks.proofs.GridCheckLaws.{grid-gives}
 use Rattle.grids.proofs.GridCallLaws.{grid-checks-are, call-refused, call-passed}
 use borrow.Author.Needs.{needs}
 use Rattle.grids.proofs.surfaces.fit_grid.Statement.{statement}

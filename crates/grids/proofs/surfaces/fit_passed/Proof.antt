@@ -6,7 +6,7 @@ use lib.ListN.{length}
 use Rattle.places.specs.Regions.{splice}
 use Rattle.bspline.specs.declared.Refusal.the-variants.{ConfusedPoints}
 use Rattle.knots.proofs.LineLaws.{rows-in, columns-in}
-use Rattle.fitting.proofs.RunLaws.{found-none, found-some}
+use Rattle.knots.proofs.LineLaws.{found-none, found-some}
 use Rattle.grids.proofs.GridRunLaws.{grid-same, grid-refused}
 use Rattle.grids.proofs.GridCallLaws.{passed-given, there-long, u-there, v-there, u-none, v-none, counts-stop, counts-pass}
 use borrow.Author.Needs.{needs}

@@ -1,5 +1,5 @@
 -- Where the slices for the answer are long enough it is the grid call's; else the checks refuse, and nothing is touched. Assumes nothing.
-use Rattle.grids.specs.Grids.{gridOf, gridLent}
+use Rattle.checks.specs.GridChecks.{gridOf, gridLent}
 use Rattle.interface.proofs.ToldGridLaws.{few-largest, few-counts, enough, told-short, told-room}
 use borrow.Author.Needs.{needs}
 use Rattle.interface.proofs.surfaces.call_grid.Statement.{statement}

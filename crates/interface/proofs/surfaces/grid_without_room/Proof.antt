@@ -1,6 +1,7 @@
 -- With nothing lent the checks stop, at the latest at 9. Assumes nothing.
 use mathlib.Core.Path.{_∙_, sym}
-use Rattle.grids.specs.Grids.{gridOf, gridResultNumber}
+use Rattle.checks.specs.GridChecks.{gridOf}
+use Rattle.grids.specs.Grids.{gridResultNumber}
 use Rattle.grids.proofs.GridCallLaws.{grid-checks-are}
 use Rattle.interface.specs.ToldGrid.{noGrid}
 use Rattle.interface.proofs.ToldGridLaws.{stops, stopped-number}

@@ -4,8 +4,8 @@ use native.Mathlib.Omega.{arith}
 use lib.ListN.{take}
 use lib.Seq.{length-take-le}
 use borrow.Author.Needs.{needs}
-use Rattle.fitting.specs.Ladders.{lent}
-use Rattle.fitting.specs.declared.Room.{Room}
+use Rattle.checks.specs.LadderChecks.{lent}
+use Rattle.checks.specs.declared.Room.{Room}
 use Rattle.replay.proofs.runs.lend.Statement.{statement}
 use Rattle.replay.proofs.runs.lend.Tie as tie
 
