@@ -1,5 +1,6 @@
 -- What a grid that passes the checks has. Assumes nothing.
 use mathlib.Core.Path.{_≡_}
+use mathlib.Core.List.{List}
 use Prim.Native.Nat.{ℕ, _+_, _-_, _*_, _≤_, _<_}
 use native.Mathlib.Nat.{mul-le-mul, mul-le-mul-right}
 use native.Mathlib.Omega.{arith}
@@ -7,13 +8,17 @@ use lib.ListN.{length}
 use lib.Ieee.{Float}
 use borrow.Author.Tests.{ltb-false, eqb-true, not-false}
 use Rattle.places.proofs.PlaceLaws.{or-false}
+use Rattle.bspline.specs.declared.Verdict.{Verdict}
 use Rattle.bspline.specs.declared.Verdict.the-variants.{Pass}
+use Rattle.bspline.specs.Refusals.{_next_}
 use Rattle.bspline.proofs.CheckLaws.{both-pass, test-fails}
 use Rattle.checks.proofs.CheckLaws.{unchosen-pass}
 use Rattle.checks.specs.declared.Shape.{Shape}
 use Rattle.checks.specs.declared.GridRoom.{GridRoom}
 use Rattle.checks.specs.declared.SurfaceCall.the-variants.{ApproximateWithin}
-use Rattle.checks.specs.GridChecks.{Grid, gridShapeVerdict, gridRoomVerdict, gridChecks, countsVerdict, GridShaped, GridRoomy}
+use Rattle.knots.specs.declared.Spacing.{Spacing}
+use Rattle.checks.specs.LadderChecks.{coordinatesVerdict}
+use Rattle.checks.specs.GridChecks.{Grid, GridLent, gridOf, gridRoomOf, gridShapeVerdict, gridRoomVerdict, gridChecks, countsVerdict, GridShaped, GridRoomy}
 
 -- the numbers fit
 pub points-few : (rows cols : ℕ) → rows ≤ 64 → cols ≤ 64 → rows * cols ≤ 4096
@@ -87,3 +92,8 @@ pub record Degrees (h : Shape) : Type 0 where
 pub degrees-under : (t : Float) (h : Shape) → countsVerdict (ApproximateWithin t) h ≡ Pass → Degrees h
 unfolding countsVerdict
 degrees-under t h e = let a = both-pass _ _ e in record { u-under = unchosen-pass (h .rows) (h .u) (a .0); v-under = unchosen-pass (h .cols) (h .v) (a .1) }
+
+pub grid-checks-are : (points : List Float) (h : Shape) (v : Spacing) (l : GridLent) (r : Verdict) → r ≡ (gridShapeVerdict (length points) h next gridRoomVerdict h (gridRoomOf l) next coordinatesVerdict points)
+    → r ≡ gridChecks (gridOf points h v) (gridRoomOf l)
+unfolding gridChecks
+grid-checks-are points h v l r e = e

@@ -1,21 +1,19 @@
--- The steps of a grid call: what each asks follows from the checks, and what the last hands out is the call's result. Assumes nothing.
-use mathlib.Core.Path.{_≡_, refl, sym, _∙_, ap, subst}
+-- The steps of a grid call after its checks: what each asks follows from the checks, and what the last hands out is the fit. Assumes nothing.
+use mathlib.Core.Path.{_≡_, refl, sym, _∙_, ap}
 use mathlib.Core.List.{List}
 use mathlib.Core.Option.{Option, none, some}
 use Prim.Native.Nat.{ℕ, _+_, _-_, _*_, _≤_, _<_}
 use native.Mathlib.Omega.{arith}
 use native.Mathlib.Nat.{mul-le-mul}
-use lib.ListN.{length, take, drop, replicate}
+use lib.ListN.{length, take, drop}
 use lib.Seq.{take-take}
 use lib.Ieee.{Float}
 use Rattle.places.specs.Regions.{part, splice}
 use Rattle.places.proofs.RegionLaws.{length-splice, part-splice, take-splice}
-use Rattle.geometry.specs.Doubles.{nought}
 use Rattle.bspline.specs.declared.Refusal.{Refusal}
 use Rattle.bspline.specs.declared.Refusal.the-variants.{PoleCountMismatch, ConfusedPoints}
 use Rattle.bspline.specs.declared.Verdict.{Verdict}
 use Rattle.bspline.specs.declared.Verdict.the-variants.{Pass, Stop}
-use Rattle.bspline.specs.Refusals.{_next_}
 use Rattle.knots.specs.declared.Spacing.{Spacing}
 use Rattle.knots.specs.Parameters.{sharedParameters}
 use Rattle.knots.specs.Lines.{linesOf}
@@ -30,7 +28,7 @@ use Rattle.making.specs.declared.Made.the-variants.{Fails, Stands}
 use Rattle.fitting.specs.Within.{Candidate, Marked, chosen, fitOnSpread}
 use Rattle.fitting.specs.Marks.{unmarked}
 use Rattle.making.specs.Results.{chosenOr, fitTo}
-use Rattle.checks.specs.LadderChecks.{aimVerdict, cleared, coordinatesVerdict}
+use Rattle.checks.specs.LadderChecks.{aimVerdict}
 use Rattle.fitting.specs.Jobs.{directionOf, HasJob}
 use Rattle.making.specs.Runs.{standingIn, madeIn, HasSaved, StandsIn, Makes}
 use Rattle.bspline.proofs.CheckLaws.{both-pass}
@@ -40,11 +38,10 @@ use Rattle.checks.specs.declared.Shape.{Shape}
 use Rattle.checks.specs.declared.SurfaceCall.{SurfaceCall}
 use Rattle.checks.specs.declared.SurfaceCall.the-variants.{Approximate, ApproximateWithin}
 use Rattle.grids.specs.declared.GridAnswer.{GridAnswer}
-use Rattle.grids.specs.declared.GridAnswer.the-variants.{Refused}
-use Rattle.checks.specs.GridChecks.{Grid, gridOf, GridLent, gridLent, gridRoomOf, GridShaped, GridRoomy, gridShapeVerdict, gridRoomVerdict, countsVerdict, gridChecks}
-use Rattle.grids.specs.Grids.{GridResult, gridRefused, gridAccepted, uParameters, vParameters, alongV, alongU, chosenU, chosenV, rowsWithin, fitGridBy, gridChecked, gridFitWith, gridFit, gridResultOf, gridAnswerOf, gridAnswerNumber, gridResultNumber, HandsOutGrid, GridCall}
+use Rattle.checks.specs.GridChecks.{Grid, gridOf, gridLent, gridRoomOf, GridShaped, GridRoomy, countsVerdict}
+use Rattle.grids.specs.Grids.{gridRefused, uParameters, vParameters, alongV, alongU, chosenU, chosenV, rowsWithin, fitGridBy, gridChecked, gridFitWith, gridFit, HandsOutGrid}
 use Rattle.grids.specs.GridRuns.{rowAim, columnAim, besideRows, afterRows, rowsJob, columnsJob, behind, uParamsIn, vParamsIn, rowsIn, columnsOver, rowsResult, Passed, countOf, knotsOf, HasBoth, HandsBoth}
-use Rattle.grids.proofs.GridRunLaws.{has-rows-job, has-rows-saved, has-columns-job, has-columns-saved, n-most, n-least, still-long, has-other, columns-direction, grid-same, grid-refused, hands-grid}
+use Rattle.grids.proofs.GridRunLaws.{has-rows-job, has-rows-saved, has-columns-job, has-columns-saved, n-most, n-least, still-long, has-other, columns-direction, grid-same, hands-grid}
 
 -- ---- both directions by their aims
 
@@ -287,45 +284,3 @@ module _ (call : SurfaceCall) (points : List Float) (h : Shape) (v : Spacing) wh
           ∙ ap (λ (z : List Float). fitGridBy call g z vs) a
           ∙ ap (fitGridBy call g (uParamsIn h w)) b
           ∙ fit-by-aims call g (uParamsIn h w) (vParamsIn h w)
-
--- ---- a whole call
-
-module _ (call : SurfaceCall) (points : List Float) (h : Shape) (v : Spacing) where
-  pub grid-checks-are : (l : GridLent) (r : Verdict) → r ≡ (gridShapeVerdict (length points) h next gridRoomVerdict h (gridRoomOf l) next coordinatesVerdict points) → r ≡ gridChecks (gridOf points h v) (gridRoomOf l)
-  unfolding gridChecks
-  grid-checks-are l r e = e
-
-  number-of : (fit : GridResult) → gridAnswerNumber (gridAnswerOf h fit) ≡ gridResultNumber fit
-  unfolding gridAnswerNumber gridAnswerOf gridResultNumber
-  number-of (gridRefused c) = refl
-  number-of (gridAccepted a b) = refl
-
-  pub call-refused : (c : Refusal) (l : GridLent) → Stop c ≡ gridChecks (gridOf points h v) (gridRoomOf l) → GridCall call (gridOf points h v) l l (Refused c)
-  unfolding gridResultOf gridChecked gridAnswerNumber gridResultNumber cleared
-  call-refused c l e =
-      let q : gridResultOf call (gridOf points h v) l ≡ gridRefused c = ap (λ (a : Verdict). gridChecked a (gridFit call (gridOf points h v))) (sym e) in
-      record {
-        hands = grid-refused h (gridResultOf call (gridOf points h v) l) c q _ _ _ _;
-        number = sym (ap gridResultNumber q);
-        work = ap (λ (a : Verdict). cleared nought a (l .work)) e;
-        index = ap (λ (a : Verdict). cleared 0 a (l .index)) e;
-      }
-
-  pub call-passed : {poles poles′ uFlat uFlat′ uKnots uKnots′ vFlat vFlat′ vKnots vKnots′ work work₁ : List Float} {uMults uMults′ vMults vMults′ index index₁ : List ℕ} {r : GridAnswer}
-      → Pass ≡ gridChecks (gridOf points h v) (gridRoomOf (gridLent poles uFlat uKnots uMults vFlat vKnots vMults work index))
-      → HandsOutGrid h (gridFit call (gridOf points h v)) (gridLent poles uFlat uKnots uMults vFlat vKnots vMults work index)
-      (gridLent poles′ uFlat′ uKnots′ uMults′ vFlat′ vKnots′ vMults′ work₁ index₁) r
-      → (work′ : List Float) (index′ : List ℕ) → work′ ≡ replicate (length work) nought → index′ ≡ replicate (length index) 0
-      → GridCall call (gridOf points h v) (gridLent poles uFlat uKnots uMults vFlat vKnots vMults work index) (gridLent poles′ uFlat′ uKnots′ uMults′ vFlat′ vKnots′ vMults′ work′ index′) r
-  unfolding gridResultOf gridChecked cleared
-  call-passed {poles} {poles′} {uFlat} {uFlat′} {uKnots} {uKnots′} {vFlat} {vFlat′} {vKnots} {vKnots′} {work} {work₁} {uMults} {uMults′} {vMults} {vMults′} {index} {index₁} {r} e x work′ index′ w i =
-      let l : GridLent = gridLent poles uFlat uKnots uMults vFlat vKnots vMults work index in
-      let q : gridResultOf call (gridOf points h v) l ≡ gridFit call (gridOf points h v) = ap (λ (a : Verdict). gridChecked a (gridFit call (gridOf points h v))) (sym e) in
-      record {
-        hands =
-            subst (λ (f : GridResult). HandsOutGrid h f l (gridLent poles′ uFlat′ uKnots′ uMults′ vFlat′ vKnots′ vMults′ work′ index′) r) (sym q)
-            (record { answer = x .answer; poles = x .poles; uFlat = x .uFlat; uKnots = x .uKnots; uMults = x .uMults; vFlat = x .vFlat; vKnots = x .vKnots; vMults = x .vMults });
-        number = ap gridAnswerNumber (x .answer ∙ ap (gridAnswerOf h) (sym q)) ∙ number-of (gridResultOf call (gridOf points h v) l);
-        work = w ∙ ap (λ (a : Verdict). cleared nought a work) e;
-        index = i ∙ ap (λ (a : Verdict). cleared 0 a index) e;
-      }

@@ -1,6 +1,5 @@
--- The laws of the grid calls, and demand 3 of grids.
+-- What the steps of a grid call ask and give.
 pub mod SurfaceLaws
 pub mod JobLaws
-pub mod GridLaws
 pub mod GridRunLaws
 pub mod GridCallLaws

@@ -1,7 +1,7 @@
 // Grid fits: document 01, part 4.
+pub mod fits;
 pub mod jobs;
 pub mod output;
-pub mod surfaces;
 
 use bspline::Refusal;
 use fitting::Fit;
