@@ -1,5 +1,2 @@
--- A list of calls with answers: its text, its cases, and what is compared.
-pub mod Text
-pub mod Listed
-pub mod Compared
+-- The replay of a list of calls with answers.
 pub mod Runs

@@ -1,7 +1,7 @@
 -- What is lent to a call, what it comes to, and what is counted. Definitions only.
 use Prim.Native.Nat.{ℕ, _+_, _-_, _*_, _/_, _≤_}
 use mathlib.Core.Path.{_≡_}
-use mathlib.Core.Bool.{cond}
+use mathlib.Core.Bool.{Bool, cond}
 use mathlib.Core.List.{List}
 use mathlib.Core.Logic.{_⊎_}
 use lib.Dec.{eqb, ltb}
@@ -12,13 +12,15 @@ use Rattle.checks.specs.declared.Room.{Room}
 use Rattle.ladders.specs.declared.Answer.{Answer}
 use Rattle.checks.specs.LadderChecks.{Lent}
 use Rattle.ladders.specs.Ladders.{LadderCall}
-use Rattle.replay.specs.declared.cases.Case.{Case}
+use Rattle.replay_list.specs.declared.cases.Case.{Case}
 use Rattle.replay.specs.declared.runs.Turn.{Turn}
 use Rattle.replay.specs.declared.runs.Turn.the-variants as turn
 use Rattle.replay.specs.declared.runs.Tally.{Tally}
 use Rattle.replay.specs.declared.runs.Tally.the-variants as tally
-use Rattle.replay.specs.Listed.{CaseAt, placeAt, listedAt}
-use Rattle.replay.specs.Compared.{compared}
+use Rattle.replay_list.specs.Listed.{CaseAt, placeAt, listedAt}
+use Rattle.replay_list.specs.declared.answers.Listed.{Listed}
+use Rattle.replay_list.specs.declared.answers.Listed.the-variants as listed
+use Rattle.replay_list.specs.Compared.{refusedWith, sameFit}
 
 -- a degree, and 27 for a higher one
 abbrev pub capped : ℕ → ℕ
@@ -51,6 +53,16 @@ pub record Lending (poles flat knots mults work index : ℕ) : Type 0 where
   pub for-mults : 1100 ≤ mults
   pub for-work : 132248 ≤ work
   pub for-index : 4264 ≤ index
+
+-- one case by whether the answers are the same
+abbrev pub turnOf : Bool → ℕ → Turn
+turnOf b next = cond b (turn.Same next) (turn.Different next)
+
+-- an answer beside the list's, which starts at a
+unfoldable pub compared : Answer → List ℕ → ℕ → ℕ → List Float → List Float → List Float → List ℕ → Listed → Turn
+compared answer w a degree poles flat knots mults (listed.Refused number) = turnOf (refusedWith answer number) (a + 1)
+compared answer w a degree poles flat knots mults (listed.Fitted l) = turnOf (sameFit w l degree poles flat knots mults answer) (l .next)
+compared answer w a degree poles flat knots mults listed.Damaged = turn.Damaged
 
 -- a case on the points s: the call's own contract holds of its answer and of the slices l as lent and l′ at exit, and the turn is that answer beside the list's
 pub record Ran (w : List ℕ) (c : Case) (s : List Float) (l l′ : Lent) (r : Turn) : Type 0 where

@@ -1,14 +1,10 @@
 // Replays a list of ladder calls: each is run again, and its answer compared with the one that a reference program gave, bit for bit.
 // The list is standard input, a word of 16 hexadecimal digits to a line: how many cases, then case by case the call and its answer.
 // All room is on the stack: 512 KiB of text, its words in 241 KiB, and some 1.2 MiB lent to the calls, enough for 3,200 places and degree 27.
-mod answers;
-mod cases;
-mod doubles;
-mod lines;
 mod runs;
 
-use crate::lines::Lines;
 use crate::runs::Tally;
+use replay_list::lines::Lines;
 
 // What the replay came to. A difference is told by its case's number, from 1 on.
 fn tell(tally: Tally) {
@@ -35,7 +31,7 @@ fn main() {
     let mut text = [0u8; 524288];
     let n = io::read_full(0, &mut text);
     let mut words = [0u64; 30840];
-    match crate::lines::read_lines(&text[..n], &mut words) {
+    match replay_list::lines::read_lines(&text[..n], &mut words) {
         Lines::Damaged => tell(Tally::Damaged),
         Lines::Whole(count) => tell(crate::runs::replay(&words[..count])),
     }

@@ -3,14 +3,13 @@ ghost use mathlib.Core.Path.{_≡_};
 ghost use Prim.Native.Nat.{_≤_};
 ghost use lib.ListN.{length, take, getD};
 ghost use Rattle.checks.specs.LadderChecks.{lent};
-ghost use Rattle.replay.specs.Listed.{listedAt, Placed};
-ghost use Rattle.replay.specs.Compared.{turnOf, compared};
-ghost use Rattle.replay.specs.Runs.{capped as cappedAt, needed, Fits, Lending, Ran, RanOn, TurnAt, firstOf, TalliedAs};
-use crate::answers::Listed;
-use crate::cases::Case;
-use crate::cases::Found;
+ghost use Rattle.replay_list.specs.Listed.{listedAt, Placed};
+ghost use Rattle.replay.specs.Runs.{turnOf, compared, capped as cappedAt, needed, Fits, Lending, Ran, RanOn, TurnAt, firstOf, TalliedAs};
 use checks::Room;
 use ladders::Answer;
+use replay_list::answers::Listed;
+use replay_list::cases::Case;
+use replay_list::cases::Found;
 
 // One case: whether the answers are the same, with the place of the next case.
 pub enum Turn {
@@ -74,13 +73,16 @@ fn compare(
 ) -> Turn
     ensures { λ r. ⌜ r ≡ compared answer (now (words .entry)) start degree (now (poles .entry)) (now (flat .entry)) (now (knots .entry)) (now (mults .entry)) (listedAt (now (words .entry)) start degree) ⌝ }
 {
-    match crate::answers::listed_at(words, start, degree) {
+    match replay_list::answers::listed_at(words, start, degree) {
         Listed::Damaged => Turn::Damaged,
         Listed::Refused(number) => {
-            turn_of(crate::answers::refused_with(answer, number), start + 1)
+            turn_of(
+                replay_list::answers::refused_with(answer, number),
+                start + 1,
+            )
         }
         Listed::Fitted(fit) => {
-            let same = crate::answers::same_fit(
+            let same = replay_list::answers::same_fit(
                 answer,
                 words,
                 fit,
@@ -182,10 +184,10 @@ fn replay_case(
     requires { ⌜ (3200 ≤ length (now points)) × Lending (length (now poles)) (length (now flat)) (length (now knots)) (length (now mults)) (length (now work)) (length (now index)) ⌝ }
     ensures { λ r. ⌜ TurnAt (now (words .entry)) start r ⌝ }
 {
-    match crate::cases::case_at(words, start) {
+    match replay_list::cases::case_at(words, start) {
         Found::Damaged => Turn::Damaged,
         Found::Here(case) => {
-            crate::cases::lay_places(words, case, points);
+            replay_list::cases::lay_places(words, case, points);
             lend(words, case, points, poles, flat, knots, mults, work, index)
         }
     }

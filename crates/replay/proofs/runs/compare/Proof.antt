@@ -1,7 +1,7 @@
 -- By the list's answer. Assumes nothing.
 use native.Mathlib.Omega.{arith}
 use borrow.Author.Needs.{needs}
-use Rattle.replay.specs.Compared.{compared}
+use Rattle.replay.specs.Runs.{compared}
 use Rattle.replay.proofs.runs.compare.Statement.{statement}
 use Rattle.replay.proofs.runs.compare.Tie as tie
 
