@@ -17,7 +17,7 @@ mean-of-le : (x e : ℕ) → 4 * (x * (x + e)) ≤ (x + (x + e)) * (x + (x + e))
 mean-of-le x e = omega arith
 
 -- the square of the mean is at least the product, all times 4
-mean : (x y : ℕ) → 4 * (x * y) ≤ (x + y) * (x + y)
+pub mean : (x y : ℕ) → 4 * (x * y) ≤ (x + y) * (x + y)
 mean x y = either (decLe x y)
   where
     at : (x y : ℕ) → x ≤ y → 4 * (x * y) ≤ (x + y) * (x + y)

@@ -1,4 +1,4 @@
-// The square root of an f64, correctly rounded, in whole numbers. The quick way is a guess from tables with one step of Newton, and a test that what comes of it is
+// The square root of an f64, correctly rounded, in whole numbers. The quick way is a guess from a table with one step of Newton, and a test that what comes of it is
 // the root; where it is not, a guess and two steps of Heron give the root of 54 binary digits, and one division the other 26.
 
 ghost use mathlib.Core.Path.{_≡_};
@@ -126,31 +126,31 @@ pub enum Quick {
     Nothing,
 }
 
-// A guess at 2^31 / √x, where x from 1 to 4 has the digits of the bit pattern b, by the parity of its exponent. Its size is all that the proofs need.
+// A guess at 2^32 / √x, where x from 1 to 4 has the digits of the bit pattern b, by the parity of its exponent. Its size is all that the proofs need.
 fn reciprocal(b: u64) -> u64
-    ensures { λ r. ⌜ r < 2 ^ 31 ⌝ }
+    ensures { λ r. ⌜ r < 2 ^ 32 ⌝ }
 {
     let i = (b >> 44) % 512;
-    let t = 0x7fff_ffff - (b >> 13) % 0x8000_0000;
-    let curve = seeds::curve(i);
-    let slope = curve % 0x1_0000_0000 + ((t * (curve >> 32)) >> 39);
-    (seeds::level(i) as u64 + ((t * slope) >> 41)) % 0x8000_0000
+    let t = (b >> 21) % 0x80_0000;
+    let word = seeds::word(i);
+    let falling = std::num::wrapping_sub_u64(word, t * (word % 0x1_0000_0000));
+    std::num::wrapping_add_u64(falling, ((t * t) >> 10) * (word % 0x800)) >> 32
 }
 
-// The root of n * 2^44 to the nearest whole number, from a guess y at 2^61 / √n: 31 digits by one product, the other 22 by a step of Newton. With R for both the last
-// test is that R * (R + 1) lies above n * 2^44 by less than 2 R, in parts of 2^22.
+// The root of n * 2^44 to the nearest whole number, from a guess y at 2^62 / √n: 31 digits q by one product, the other 22 as c by a step of Newton. With R for both,
+// R * (R + 1) has to lie above n * 2^44 by less than 2 R. The last test says so in parts of 2^22, where the square of c lies between 4 c - 2^24 and 4 c.
 fn quick_root(n: u64, y: u64) -> Quick
-    requires { ⌜ (2 ^ 60 ≤ n) × (n < 2 ^ 62) × (y < 2 ^ 31) ⌝ }
+    requires { ⌜ (2 ^ 60 ≤ n) × (n < 2 ^ 62) × (y < 2 ^ 32) ⌝ }
     ensures { λ r. ⌜ quickIs (nearestTo (n * 2 ^ 44)) r ⌝ }
 {
-    let q = ((n >> 29) * y) >> 32;
+    let q = ((n >> 30) * y) >> 32;
     let r = std::num::wrapping_sub_u64(n, q * q);
-    if r >= 33_999_999_999 {
+    if r >> 3 >= q {
         return Quick::Nothing;
     }
-    let c = ((r >> 2) * y + 0x21_0000_0000) >> 38;
-    let square = 2 * (q * c) + q + ((c * (c + 1)) >> 22);
-    if std::num::wrapping_sub_u64(square, r * 0x40_0000) / 2 < q {
+    let c = ((r >> 3) * y + 0x20_c000_0000) >> 38;
+    let square = 2 * ((q + 2) * c) + q;
+    if std::num::wrapping_sub_u64(square, r * 0x40_0000 + 0x100_0000) < 2 * q - 0x100_0000 {
         Quick::At(q * 0x40_0000 + c)
     } else {
         Quick::Nothing

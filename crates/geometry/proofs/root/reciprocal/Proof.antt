@@ -1,55 +1,55 @@
--- `root::reciprocal` meets its contract: whatever the tables hold, no sum or product is too large. Assumes nothing.
+-- `root::reciprocal` meets its contract: whatever the table holds, no product is too large. Assumes nothing.
 use borrow.Author.Needs.{needs}
-use Prim.Native.Nat.{ℕ, _+_, _-_, _*_, _/_, _%_, _^_, _≤_, _<_}
+use Prim.Native.Nat.{ℕ, _/_, _%_, _^_, _<_}
 use native.Mathlib.Omega.{arith}
-use Rattle.geometry.proofs.QuickLaws.{bend-fits, slope-fits, rise-fits}
+use Rattle.geometry.proofs.QuickLaws.{fall-fits, away-fits, bend-fits}
 use Rattle.geometry.proofs.root.reciprocal.Statement.{statement}
 use Rattle.geometry.proofs.root.reciprocal.Tie as tie
 use Rattle.geometry.proofs.root.reciprocal.Reads as reads
 use Rattle.geometry.proofs.root.reciprocal.Lts as lts
-use Rattle.seeds.proofs.curve.Reads as curve-reads
-use Rattle.seeds.proofs.level.Reads as level-reads
+use Rattle.seeds.proofs.word.Reads as word-reads
+use Rattle.std.proofs.num.wrapping_add_u64.Reads as wrapping-add-u64-reads
+use Rattle.std.proofs.num.wrapping_sub_u64.Reads as wrapping-sub-u64-reads
 
--- with the distance from a range's upper end, and what the table holds
-module _ (c : tie.After-curve) where
-  abbrev away : ℕ
-  away = 2147483647 - c .before .args .b / 2 ^ 13 % 2147483648
+-- the distance from a range's lower end
+abbrev away : tie.Start → ℕ
+away a = a .args .b / 2 ^ 21 % 8388608
 
-  abbrev held : ℕ
-  held = c .curve .result
+near : (a : tie.Start) → away a < 2 ^ 23
+near a = omega arith
 
-  small : away ≤ 2147483647
-  small = omega arith
+word-requires : tie.Need-word-requires
+word-requires c κs = search needs
 
-  word : held < 2 ^ 64
-  word = omega arith
+mul-wrapping-sub-u64 : tie.Need-mul-wrapping-sub-u64
+mul-wrapping-sub-u64 c = record { fits = fall-fits (away (c .before)) (near (c .before)) (c .word .result) }
 
-sub-t : tie.Need-sub-t
-sub-t c = search needs
+wrapping-sub-u64-requires : tie.Need-wrapping-sub-u64-requires
+wrapping-sub-u64-requires c κs = search needs
 
-curve-requires : tie.Need-curve-requires
-curve-requires c κs = search needs
+mul-wrapping-add-u64 : tie.Need-mul-wrapping-add-u64
+mul-wrapping-add-u64 c =
+    let a = c .before .before in
+    let h = away-fits (away a) (near a) in
+    omega arith
 
-mul-slope : tie.Need-mul-slope
-mul-slope c = record { fits = bend-fits (away c) (held c) (small c) (word c) }
+mul-wrapping-add-u64-2 : tie.Need-mul-wrapping-add-u64-2
+mul-wrapping-add-u64-2 c = let a = c .before .before in record { fits = bend-fits (away a) (near a) (c .before .word .result) }
 
-add-slope : tie.Need-add-slope
-add-slope c = let h = slope-fits (away c) (held c) (small c) (word c) in omega arith
-
-level-requires : tie.Need-level-requires
-level-requires c κs = search needs
-
-cast-result : tie.Need-cast-result
-cast-result c = search needs
-
-mul-result : tie.Need-mul-result
-mul-result c = let a = c .before in record { fits = rise-fits (away a) (held a) (small a) (word a) }
-
-add-result : tie.Need-add-result
-add-result c = let a = c .before in let h = rise-fits (away a) (held a) (small a) (word a) in omega arith
+wrapping-add-u64-requires : tie.Need-wrapping-add-u64-requires
+wrapping-add-u64-requires c κs = search needs
 
 returns : tie.Need-returns
 returns c = omega arith
 
 pub reciprocal-spec : {M : Type 1} → statement M
-reciprocal-spec = tie.close (tie.spec sub-t curve-requires mul-slope add-slope level-requires cast-result mul-result add-result returns)
+reciprocal-spec =
+    tie.close
+    (tie.spec
+    word-requires
+    mul-wrapping-sub-u64
+    wrapping-sub-u64-requires
+    mul-wrapping-add-u64
+    mul-wrapping-add-u64-2
+    wrapping-add-u64-requires
+    returns)
