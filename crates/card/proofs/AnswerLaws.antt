@@ -24,9 +24,9 @@ use Rattle.knots.specs.Knots.{runStart, distinctKnots, knotAt, multiplicityAt, 
 use Rattle.tables.specs.BasisTable.{BasisTable, basisTable}
 use Rattle.tables.specs.Deviations.{unreadable}
 use Rattle.tables.specs.Directions.{ladder, ladderPoint}
-use Rattle.tables.specs.Interpolation.{interpolation, interpolatedLine, interpolationMatrix}
+use Rattle.solving.specs.Interpolation.{interpolation, interpolatedLine, interpolationMatrix}
 use Rattle.tables.proofs.SpliceLaws.{length-points}
-use Rattle.tables.proofs.ThroughLaws.{length-substitute}
+use Rattle.solving.proofs.ThroughLaws.{length-substitute}
 use Rattle.bands.specs.BandLu.{factorBand}
 use Rattle.ladders.specs.declared.Answer.{Answer}
 use Rattle.ladders.specs.declared.Answer.the-variants.{Fitted}

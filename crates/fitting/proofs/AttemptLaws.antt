@@ -19,13 +19,13 @@ use Rattle.geometry.specs.Root.{rootsOf}
 use Rattle.tables.specs.declared.Table.{Table}
 use Rattle.tables.specs.declared.Measured.{Measured}
 use Rattle.tables.specs.BasisTable.{BasisTable, basisTable, first}
-use Rattle.tables.specs.LeastSquares.{leastSquares}
-use Rattle.tables.specs.Interpolation.{interpolation}
+use Rattle.solving.specs.LeastSquares.{leastSquares}
+use Rattle.solving.specs.Interpolation.{interpolation}
 use Rattle.tables.specs.Deviations.{gridDistances}
 use Rattle.tables.specs.Directions.{Direction, transposed}
 use Rattle.tables.specs.Layout.{tableIn, dataPoint, Kept, HasTable, HasData, FillsTable, HasSquares, Squared}
 use Rattle.tables.specs.Measures.{measured}
-use Rattle.tables.specs.Through.{Interpolates, Interpolated}
+use Rattle.solving.specs.Through.{Interpolates, Interpolated}
 use Rattle.tables.proofs.KeptLaws.{cond-same, above-one, all-data-same, data-wider, kept-same, kept-splice, kept-wider, kept-then, kept-part, kept-table, has-table-kept}
 use Rattle.tables.proofs.TableLaws.{length-firsts, length-values, table-filled, has-filled}
 use Rattle.fitting.specs.declared.Job.{Job}

@@ -8,8 +8,8 @@ use lib.Ieee.{Float}
 use Rattle.geometry.specs.Doubles.{largest}
 use Rattle.knots.specs.Knots.{bezierKnots, averagedKnots, approximationKnots}
 use Rattle.tables.specs.BasisTable.{BasisTable, basisTable}
-use Rattle.tables.specs.LeastSquares.{leastSquares}
-use Rattle.tables.specs.Interpolation.{interpolation}
+use Rattle.solving.specs.LeastSquares.{leastSquares}
+use Rattle.solving.specs.Interpolation.{interpolation}
 use Rattle.tables.specs.Deviations.{largestWithin}
 use Rattle.tables.specs.Directions.{Direction}
 use Rattle.search.specs.declared.Found.{Found}

@@ -47,7 +47,7 @@ pub fn attempt(work: &mut [f64], index: &mut [usize], points: &[f64], job: Job, 
     let table = job.table;
     let m = l - table.degree - 1;
     tables::basis_table::fill_table(work, index, table, job.flat, job.flat + l, job.params);
-    if !tables::squares::least_squares(
+    if !solving::squares::least_squares(
         work,
         index,
         points,
@@ -88,6 +88,6 @@ pub fn pass_through(work: &mut [f64], index: &mut [usize], points: &[f64], job: 
     let end = job.flat + (n + table.degree + 1);
     knots::clamped::averaged_knots(work, job.params, n, table.degree, job.flat);
     tables::basis_table::fill_table(work, index, table, job.flat, end, job.params);
-    tables::through::interpolation(work, index, points, table, job.given, job.band, job.poles);
+    solving::through::interpolation(work, index, points, table, job.given, job.band, job.poles);
     measure(work, index, points, job, n)
 }

@@ -22,10 +22,10 @@ use Rattle.bands.specs.Cholesky.{substituteSymmetricBand}
 use Rattle.knots.specs.Knots.{bezierKnots, approximationKnots}
 use Rattle.knots.proofs.ParameterLaws.{when-some}
 use Rattle.tables.specs.BasisTable.{BasisTable}
-use Rattle.tables.specs.LeastSquares.{rightHand, solvedLines, leastSquares}
+use Rattle.solving.specs.LeastSquares.{rightHand, solvedLines, leastSquares}
 use Rattle.tables.specs.Deviations.{largestWithin}
 use Rattle.tables.specs.Directions.{Direction}
-use Rattle.tables.proofs.SquareLaws.{length-right, length-substituted}
+use Rattle.solving.proofs.SquareLaws.{length-right, length-substituted}
 use Rattle.refinement.specs.Refinement.{withKnots, refinedKnots}
 use Rattle.fitting.specs.declared.Mark.the-variants.{Refined, Spread, Interpolated}
 use Rattle.fitting.specs.Marks.{markOf}

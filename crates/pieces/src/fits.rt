@@ -4,10 +4,10 @@ ghost use Prim.Native.Nat.{_+_, _*_, _≤_};
 ghost use lib.ListN.{length, set};
 ghost use Rattle.places.specs.Regions.{part, splice};
 ghost use Rattle.tables.specs.BasisTable.{basisTable};
-ghost use Rattle.tables.specs.LeastSquares.{leastSquares};
+ghost use Rattle.solving.specs.LeastSquares.{leastSquares};
 ghost use Rattle.tables.specs.Deviations.{ladderDistances, rowDistances};
 ghost use Rattle.tables.specs.Layout.{tableIn, dataPoint, FillsTable, HasSquares, Squared, HasFit};
-ghost use Rattle.tables.specs.Through.{Interpolates, Interpolated};
+ghost use Rattle.solving.specs.Through.{Interpolates, Interpolated};
 ghost use Rattle.tables.specs.Measures.{measured, HasGrid, LeavesSquares, pointDeviations, columnDeviations, rowDeviations, gridDistancesIn};
 ghost use Rattle.pieces.specs.Fits.{tableOf, dataOf};
 use tables::Data;
@@ -76,7 +76,7 @@ pub extern "C" fn pieces_least_squares(
         start: start,
         end: end,
     };
-    tables::squares::least_squares(work, index, points, table, given, m, band, poles)
+    solving::squares::least_squares(work, index, points, table, given, m, band, poles)
 }
 
 #[no_mangle]
@@ -112,7 +112,7 @@ pub extern "C" fn pieces_interpolation(
         start: start,
         end: end,
     };
-    tables::through::interpolation(work, index, points, table, given, band, poles);
+    solving::through::interpolation(work, index, points, table, given, band, poles);
 }
 
 // The number of unreadable distances, with the largest in place 0 of `most`, and the squares of the deviations from `out` on.

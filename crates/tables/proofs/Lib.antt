@@ -1,9 +1,7 @@
 -- The laws of tables, of fits on them, and of what they leave in the lent slices. Other crates' proofs cite them as Rattle.tables.proofs.NAME.
 pub mod KeptLaws
 pub mod ReadingLaws
 pub mod TableLaws
-pub mod SquareLaws
 pub mod SpliceLaws
-pub mod ThroughLaws
 pub mod MeasureLaws
 pub mod GridLaws

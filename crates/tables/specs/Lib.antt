@@ -1,11 +1,7 @@
 -- Fits on given knots: the basis table, least squares, interpolation, and how far each point lies from its fit.
 pub mod BasisTable
 pub mod Rows
-pub mod LeastSquares
-pub mod Interpolation
 pub mod Deviations
 pub mod Directions
 pub mod Layout
-pub mod Steps
-pub mod Through
 pub mod Measures

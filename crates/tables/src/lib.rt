@@ -1,11 +1,9 @@
-// Basis tables, least squares, interpolation, and deviations, for ladders, rows and columns: document 01, part 3 (`BasisTable`, `least_squares`,
-// `interpolation`) and part 4 (`row_deviations`, `deviations`). Everything stands in regions of two lent slices, `work` and `index`.
+// Basis tables and deviations, for ladders, rows and columns: document 01, part 3 (`BasisTable`) and part 4 (`row_deviations`, `deviations`). Everything
+// stands in regions of two lent slices, `work` and `index`.
 pub mod basis_table;
 pub mod datum;
 pub mod deviations;
 pub mod rows;
-pub mod squares;
-pub mod through;
 
 // The data of a direction, by a number: a ladder's points, a grid's rows, or the columns of the row poles.
 pub const LADDER: usize = 0;

@@ -1,0 +1,40 @@
+-- Interpolating poles of lines of data, one pole for each parameter of a table on averaged knots: the band matrix is factored once, by LU, for all the lines
+-- (`interpolation`). Definitions only.
+use mathlib.Core.Bool.{cond, _&&_}
+use mathlib.Core.List.{List}
+use Prim.Native.Nat.{ℕ, _+_, _-_, _*_}
+use lib.Dec.{leb}
+use lib.ListN.{replicate}
+use lib.Ieee.{Float}
+use Rattle.places.specs.Loops.{each}
+use Rattle.places.specs.Places.{joined}
+use Rattle.geometry.specs.declared.Point.{Point}
+use Rattle.geometry.specs.Doubles.{nought}
+use Rattle.geometry.specs.Points.{putPoint, pointsOf}
+use Rattle.bands.specs.Bands.{putEntry}
+use Rattle.bands.specs.BandLu.{factorBand, substituteBand}
+use Rattle.tables.specs.BasisTable.{BasisTable, parameterCount, first, value}
+
+-- parameter j's value a, in row j and the column of the pole that it belongs to; a value outside the band is dropped, as the Rust's release build does
+unfoldable pub putValue : BasisTable → ℕ → ℕ → List Float → List Float
+putValue t j a l =
+    let h = t .degree - 1 in
+    let column = first t j + a in
+    cond (leb j (column + h) && leb column (j + h)) (putEntry (2 * h + 1) h j column (value t j a) l) l
+
+-- the matrix, of half-bandwidth degree - 1
+unfoldable pub interpolationMatrix : BasisTable → List Float
+interpolationMatrix t =
+    each 0 (parameterCount t) (λ j. each 0 (t .degree + 1) (putValue t j)) (replicate (parameterCount t * (2 * (t .degree - 1) + 1)) nought)
+
+-- one line, with the factored matrix: the end poles are the end points
+unfoldable pub interpolatedLine : BasisTable → List Float → (ℕ → Point) → List Float
+interpolatedLine t band point =
+    let n = parameterCount t in
+    putPoint (n - 1) (point (n - 1)) (putPoint 0 (point 0) (substituteBand (t .degree - 1) n band (pointsOf n point)))
+
+-- the lines, one after the other. Poles that are not finite are handed out too.
+unfoldable pub interpolation : BasisTable → ℕ → (ℕ → ℕ → Point) → List Float
+interpolation t lines point =
+    let band = factorBand (t .degree - 1) (parameterCount t) (interpolationMatrix t) in
+    joined lines (λ r. interpolatedLine t band (point r))
