@@ -68,15 +68,27 @@ fn eliminate_pivot(band: &mut [f64], h: usize, n: usize, k: usize, pivot: &mut [
     clear_below(&mut band[below..], w, h, count, pivot, inverse);
 }
 
+// The pivots from `start` on.
+pub fn eliminate_from(band: &mut [f64], h: usize, n: usize, start: usize)
+    requires { ⌜ (h ≤ 25) × (n * (2 * h + 1) ≤ length (now band)) ⌝ }
+    ensures { λ _. ⌜ now (band .exit) ≡ each start n (eliminate h n) (now (band .entry)) ⌝ }
+{
+    let mut pivot = [0.0f64; 25];
+    for k in start..n {
+        eliminate_pivot(band, h, n, k, &mut pivot);
+    }
+}
+
 // LU without pivoting, in place, of n rows of half-width h.
 pub fn factor_band(band: &mut [f64], h: usize, n: usize)
     requires { ⌜ (h ≤ 25) × (n * (2 * h + 1) ≤ length (now band)) ⌝ }
     ensures { λ _. ⌜ now (band .exit) ≡ factorBand h n (now (band .entry)) ⌝ }
 {
-    let mut pivot = [0.0f64; 25];
-    for k in 0..n {
-        eliminate_pivot(band, h, n, k, &mut pivot);
+    if h == 2 {
+        super::narrow::factor_narrow(band, n);
+        return;
     }
+    eliminate_from(band, h, n, 0);
 }
 
 // Takes factor times q off point i, where the factor is not 0.
