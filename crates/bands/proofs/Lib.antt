@@ -4,4 +4,5 @@ pub mod Lengths
 pub mod PivotLaws
 pub mod CholeskyLaws
 pub mod LuLaws
+pub mod NarrowLaws
 pub mod Examples

@@ -19,7 +19,7 @@ use Rattle.bands.specs.BandLu.{bandEntry, reach, lessPivot, lessMultiple
 use Rattle.bands.specs.Textbook.{lessMultiples, IsLu}
 use Rattle.bands.proofs.Lengths.{length-cond}
 
-cond-at : (b : Bool) (x : ℕ) (s t : List Float) (v : Float) → at s x ≡ v → at t x ≡ v → at (cond b s t) x ≡ v
+pub cond-at : (b : Bool) (x : ℕ) (s t : List Float) (v : Float) → at s x ≡ v → at t x ≡ v → at (cond b s t) x ≡ v
 cond-at true x s t v p q = p
 cond-at false x s t v p q = q
 

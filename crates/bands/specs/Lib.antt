@@ -5,4 +5,5 @@ pub mod BandLu
 pub mod Shapes
 pub mod SolvedRow
 pub mod BelowPivot
+pub mod Narrow
 pub mod Textbook

@@ -2,6 +2,7 @@
 // Here is what the two share: entries, the columns of a row, and one row of a triangular system.
 pub mod cholesky;
 pub mod lu;
+pub mod narrow;
 
 ghost use mathlib.Core.Path.{_≡_};
 ghost use Prim.Native.Nat.{_-_, _<_};

@@ -68,15 +68,27 @@ fn eliminate_pivot(band: &mut [f64], h: usize, n: usize, k: usize, pivot: &mut [
     clear_below(&mut band[below..], w, h, count, pivot, inverse);
 }
 
+// The pivots from `start` on.
+pub fn eliminate_from(band: &mut [f64], h: usize, n: usize, start: usize)
+    requires { ⌜ (h ≤ 25) × (n * (2 * h + 1) ≤ length (now band)) ⌝ }
+    ensures { λ _. ⌜ now (band .exit) ≡ each start n (eliminate h n) (now (band .entry)) ⌝ }
+{
+    let mut pivot = [0.0f64; 25];
+    for k in start..n {
+        eliminate_pivot(band, h, n, k, &mut pivot);
+    }
+}
+
 // LU without pivoting, in place, of n rows of half-width h.
 pub fn factor_band(band: &mut [f64], h: usize, n: usize)
     requires { ⌜ (h ≤ 25) × (n * (2 * h + 1) ≤ length (now band)) ⌝ }
     ensures { λ _. ⌜ now (band .exit) ≡ factorBand h n (now (band .entry)) ⌝ }
 {
-    let mut pivot = [0.0f64; 25];
-    for k in 0..n {
-        eliminate_pivot(band, h, n, k, &mut pivot);
+    if h == 2 {
+        super::narrow::factor_narrow(band, n);
+        return;
     }
+    eliminate_from(band, h, n, 0);
 }
 
 // Takes factor times q off point i, where the factor is not 0.
@@ -92,7 +104,7 @@ fn less_point(poles: &mut [f64], i: usize, factor: f64, q: Point)
 }
 
 // Pivot k of L y = b: multiples of point k off the points after it.
-fn forward_step(
+pub fn forward_step(
     work: &mut [f64],
     l0: usize,
     l1: usize,
@@ -115,7 +127,15 @@ fn forward_step(
 }
 
 // L y = b in place.
-fn forward_steps(work: &mut [f64], l0: usize, l1: usize, p0: usize, p1: usize, h: usize, n: usize)
+pub fn forward_steps(
+    work: &mut [f64],
+    l0: usize,
+    l1: usize,
+    p0: usize,
+    p1: usize,
+    h: usize,
+    n: usize,
+)
     requires { ⌜ Solvable l0 l1 p0 p1 (2 * h + 1) h n (now work) ⌝ }
     ensures { λ _. ⌜ now (work .exit) ≡ splice p0 p1 (each 0 n (forwardStep h n (part l0 l1 (now (work .entry)))) (part p0 p1 (now (work .entry)))) (now (work .entry)) ⌝ }
 {
@@ -125,7 +145,15 @@ fn forward_steps(work: &mut [f64], l0: usize, l1: usize, p0: usize, p1: usize, h
 }
 
 // U x = y in place.
-fn back_band_rows(work: &mut [f64], l0: usize, l1: usize, p0: usize, p1: usize, h: usize, n: usize)
+pub fn back_band_rows(
+    work: &mut [f64],
+    l0: usize,
+    l1: usize,
+    p0: usize,
+    p1: usize,
+    h: usize,
+    n: usize,
+)
     requires { ⌜ Solvable l0 l1 p0 p1 (2 * h + 1) h n (now work) ⌝ }
     ensures { λ _. ⌜ now (work .exit) ≡ splice p0 p1 (down n (backBandRow h n (part l0 l1 (now (work .entry)))) (part p0 p1 (now (work .entry)))) (now (work .entry)) ⌝ }
 {
@@ -151,6 +179,11 @@ pub fn substitute_band(
     requires { ⌜ Solvable l0 l1 p0 p1 (2 * h + 1) h n (now work) ⌝ }
     ensures { λ _. ⌜ now (work .exit) ≡ splice p0 p1 (substituteBand h n (part l0 l1 (now (work .entry))) (part p0 p1 (now (work .entry)))) (now (work .entry)) ⌝ }
 {
+    if h == 2 {
+        super::narrow::forward_narrow(work, l0, l1, p0, p1, n);
+        super::narrow::back_narrow(work, l0, l1, p0, p1, n);
+        return;
+    }
     forward_steps(work, l0, l1, p0, p1, h, n);
     back_band_rows(work, l0, l1, p0, p1, h, n);
 }

@@ -16,7 +16,7 @@ use Rattle.places.specs.Places.{listOf, laid}
 use Rattle.places.specs.Regions.{part}
 use Rattle.places.proofs.RegionLaws.{length-part, getD-part}
 use Rattle.places.proofs.PlaceLaws.{length-listOf, listOf-same, listOf-at, laid-front, laid-below, laid-at, laid-same, laid-over, laid-laid, laid-wider, length-laid, length-filled}
-use Rattle.geometry.specs.Doubles.{_⊕_, _⊗_, _⊘_, one, at}
+use Rattle.geometry.specs.Doubles.{_⊕_, _⊖_, _⊗_, _⊘_, nought, one, at}
 use Rattle.bspline.specs.Basis.{share, rising, row, basis, leftOf, rightOf, basisAt}
 
 -- what the code computes, from the distances a and b and the value x
@@ -203,3 +203,37 @@ window-values flat row₀ row₁ row₂ d s from start end u e fits behind room 
     ∙ ap (λ (x : List Float). at x (start + k)) put
     ∙ laid-at start (d + 1) (at (basisAt row₁ d d u)) row₁ k nan h (omega arith)
     ∙ ap (λ (x : List Float). at x k) (window-basis flat row₁ d s from u e same)
+
+-- ---- degree 3, worked out
+
+-- the four functions, from the distances 1 to 3 below u and above it
+abbrev cubic : Float → Float → Float → Float → Float → Float → List Float
+cubic a b c d e f =
+    let t = one ⊗ (one ⊘ (d ⊕ a)) in
+    let low = (nought ⊕ d ⊗ t) ⊗ (one ⊘ (d ⊕ b)) in
+    let high = a ⊗ t ⊗ (one ⊘ (e ⊕ a)) in
+    let x = (nought ⊕ d ⊗ low) ⊗ (one ⊘ (d ⊕ c)) in
+    let y = (b ⊗ low ⊕ e ⊗ high) ⊗ (one ⊘ (e ⊕ b)) in
+    let z = a ⊗ high ⊗ (one ⊘ (f ⊕ a)) in
+    (nought ⊕ d ⊗ x) ∷ (c ⊗ x ⊕ e ⊗ y) ∷ (b ⊗ y ⊕ f ⊗ z) ∷ (a ⊗ z) ∷ []
+
+basis-cubic : (left right : ℕ → Float) → basis left right 3 ≡ cubic (left 1) (left 2) (left 3) (right 1) (right 2) (right 3)
+unfolding listOf basis row share rising
+basis-cubic left right = refl
+
+-- what the code stores
+pub laid-cubic : (old : List Float) (knot start : ℕ) (u : Float)
+    → let q = cubic (u ⊖ at old knot) (u ⊖ at old (knot - 1)) (u ⊖ at old (knot - 2)) (at old (knot + 1) ⊖ u) (at old (knot + 2) ⊖ u) (at old (knot + 3) ⊖ u) in
+    set (set (set (set old start (at q 0)) (start + 1) (at q 1)) (start + 2) (at q 2)) (start + 3) (at q 3) ≡ laid start 4 (at (basisAt old 3 knot u)) old
+unfolding laid basisAt leftOf rightOf
+laid-cubic old knot start u =
+    let from : ℕ → ℕ → ℕ → List Float = λ i j k. cubic (u ⊖ at old i) (u ⊖ at old j) (u ⊖ at old k) (at old (knot + 1) ⊖ u) (at old (knot + 2) ⊖ u) (at old (knot + 3) ⊖ u) in
+    let one : knot ≡ knot + 1 - 1 = omega arith in
+    let two : knot - 1 ≡ knot + 1 - 2 = omega arith in
+    let three : knot - 2 ≡ knot + 1 - 3 = omega arith in
+    let q : from knot (knot - 1) (knot - 2) ≡ basisAt old 3 knot u =
+    ap (λ (i : ℕ). from i (knot - 1) (knot - 2)) one ∙ ap (λ (j : ℕ). from (knot + 1 - 1) j (knot - 2)) two ∙ ap (from (knot + 1 - 1) (knot + 1 - 2)) three
+    ∙ sym (basis-cubic (leftOf old knot u) (rightOf old knot u)) in
+    let p = from knot (knot - 1) (knot - 2) in
+    ap (λ (i : ℕ). set (set (set (set old i (at p 0)) (start + 1) (at p 1)) (start + 2) (at p 2)) (start + 3) (at p 3)) (sym (add-zero start))
+    ∙ ap (λ (l : List Float). laid start 4 (at l) old) q

@@ -64,8 +64,31 @@ fn begin(work: &mut [f64], knot: usize, degree: usize, u: f64, start: usize) -> 
     1
 }
 
-// The basis functions of the degree that are not zero on the span that the knot at `knot` opens, at u, in the places from `start` on.
-pub fn basis_values(work: &mut [f64], knot: usize, degree: usize, u: f64, start: usize)
+// The functions of degree 3, as `raise` makes them one degree after the other, with nothing stored but the last: the compiler packs the divisions in pairs.
+fn cubic_values(work: &mut [f64], knot: usize, u: f64, start: usize)
+    requires { ⌜ (3 ≤ knot) × (knot + 3 < start) × (start + 3 < length (now work)) ⌝ }
+    ensures { λ _. ⌜ now (work .exit) ≡ laid start 4 (at (basisAt (now (work .entry)) 3 knot u)) (now (work .entry)) ⌝ }
+{
+    let a = u - work[knot];
+    let b = u - work[knot - 1];
+    let c = u - work[knot - 2];
+    let d = work[knot + 1] - u;
+    let e = work[knot + 2] - u;
+    let f = work[knot + 3] - u;
+    let one = 1.0 * (1.0 / (d + a));
+    let low = (0.0 + d * one) * (1.0 / (d + b));
+    let high = a * one * (1.0 / (e + a));
+    let x = (0.0 + d * low) * (1.0 / (d + c));
+    let y = (b * low + e * high) * (1.0 / (e + b));
+    let z = a * high * (1.0 / (f + a));
+    work[start] = 0.0 + d * x;
+    work[start + 1] = c * x + e * y;
+    work[start + 2] = b * y + f * z;
+    work[start + 3] = a * z;
+}
+
+// The functions of any degree, two degrees in a pass.
+fn paired_values(work: &mut [f64], knot: usize, degree: usize, u: f64, start: usize)
     requires { ⌜ (degree ≤ knot) × (knot + degree < start) × (start + degree < length (now work)) ⌝ }
     ensures { λ _. ⌜ now (work .exit) ≡ laid start (degree + 1) (at (basisAt (now (work .entry)) degree knot u)) (now (work .entry)) ⌝ }
 {
@@ -73,4 +96,16 @@ pub fn basis_values(work: &mut [f64], knot: usize, degree: usize, u: f64, start:
     for i in 0..degree / 2 {
         raise_twice(work, knot, u, d + 2 * i + 1, start);
     }
+}
+
+// The basis functions of the degree that are not zero on the span that the knot at `knot` opens, at u, in the places from `start` on.
+pub fn basis_values(work: &mut [f64], knot: usize, degree: usize, u: f64, start: usize)
+    requires { ⌜ (degree ≤ knot) × (knot + degree < start) × (start + degree < length (now work)) ⌝ }
+    ensures { λ _. ⌜ now (work .exit) ≡ laid start (degree + 1) (at (basisAt (now (work .entry)) degree knot u)) (now (work .entry)) ⌝ }
+{
+    if degree == 3 {
+        cubic_values(work, knot, u, start);
+        return;
+    }
+    paired_values(work, knot, degree, u, start);
 }

@@ -43,14 +43,45 @@ fn add_products(
     }
 }
 
+// The products of value a of a row with the values up to itself.
+fn add_value(
+    work: &mut [f64],
+    row: usize,
+    band: usize,
+    end: usize,
+    p: usize,
+    first: usize,
+    a: usize,
+)
+    requires { ⌜ OntoBand row band end p first (now work) × (a ≤ p) ⌝ }
+    ensures { λ _. ⌜ now (work .exit) ≡ splice band end (addRowValue p first (part row (row + (p + 1)) (now (work .entry))) a (part band end (now (work .entry)))) (now (work .entry)) ⌝ }
+{
+    let x = work[row + a];
+    add_products(work, row, band, end, p, first, a, x);
+}
+
+// The products of one row of degree 3, with every number of places known to the compiler.
+fn add_four(work: &mut [f64], row: usize, band: usize, end: usize, first: usize)
+    requires { ⌜ OntoBand row band end 3 first (now work) ⌝ }
+    ensures { λ _. ⌜ now (work .exit) ≡ splice band end (each 0 4 (addRowValue 3 first (part row (row + 4) (now (work .entry)))) (part band end (now (work .entry)))) (now (work .entry)) ⌝ }
+{
+    add_value(work, row, band, end, 3, first, 0);
+    add_value(work, row, band, end, 3, first, 1);
+    add_value(work, row, band, end, 3, first, 2);
+    add_value(work, row, band, end, 3, first, 3);
+}
+
 // The products of one row.
 fn add_row(work: &mut [f64], row: usize, band: usize, end: usize, p: usize, first: usize)
     requires { ⌜ OntoBand row band end p first (now work) ⌝ }
     ensures { λ _. ⌜ now (work .exit) ≡ splice band end (each 0 (p + 1) (addRowValue p first (part row (row + (p + 1)) (now (work .entry)))) (part band end (now (work .entry)))) (now (work .entry)) ⌝ }
 {
+    if p == 3 {
+        add_four(work, row, band, end, first);
+        return;
+    }
     for a in 0..p + 1 {
-        let x = work[row + a];
-        add_products(work, row, band, end, p, first, a, x);
+        add_value(work, row, band, end, p, first, a);
     }
 }
 

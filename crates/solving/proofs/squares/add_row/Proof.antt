@@ -1,11 +1,14 @@
--- The invariant: what the values that are left make of the matrix is what all of them make of the one at the start. Assumes nothing.
+-- The invariant: what the values that are left make of the matrix is what all of them make of the one at the start. Degree 3 has a function of its own. Assumes nothing.
+use mathlib.Core.Path.{_≡_, ap, _∙_, subst}
 use mathlib.Core.List.{List}
-use Prim.Native.Nat.{_+_, _-_}
-use lib.Ieee.{Float, nan}
-use Rattle.places.proofs.RegionLaws.{Going, going-start, going-turn, going-end, getD-part}
-use Rattle.solving.specs.Steps.{addRowValue}
-use Rattle.solving.proofs.SquareLaws.{length-row-value, band-apart}
+use Prim.Native.Nat.{ℕ, _+_, _-_}
 use native.Mathlib.Omega.{arith}
+use lib.Ieee.{Float}
+use Rattle.places.specs.Loops.{each}
+use Rattle.places.specs.Regions.{part, splice}
+use Rattle.places.proofs.RegionLaws.{Going, going-start, going-turn, going-end}
+use Rattle.solving.specs.Steps.{addRowValue, OntoBand}
+use Rattle.solving.proofs.SquareLaws.{length-row-value, band-apart}
 use Rattle.solving.proofs.squares.add_row.Statement.{statement}
 use Rattle.solving.proofs.squares.add_row.Tie as tie
 
@@ -15,25 +18,35 @@ Inv-loop work₀ row band end p first a₀ a-end work a = Going band end row (ro
 abbrev μ-loop : tie.MeasureT-loop
 μ-loop work₀ row band end p first a₀ a-end work a = p + 1 - a
 
+add-four-requires : tie.Need-add-four-requires Inv-loop μ-loop
+add-four-requires c κs =
+    let s = c .before .before .before in
+    let a = s .args in
+    let e : a .p ≡ 3 = omega arith in
+    subst (λ (p : ℕ). OntoBand (a .row) (a .band) (a .end) p (a .first) (a .work .now)) e (s .pre)
+
+same-length : tie.Need-same-length Inv-loop μ-loop
+same-length c = omega arith
+
+returns : tie.Need-returns Inv-loop μ-loop
+returns c =
+    let a = c .before .before .before .before .before .before .args in
+    let w : List Float = a .work .now in
+    let e : 3 ≡ a .p = omega arith in
+    c .before .before .add-four .ensures
+    ∙ ap (λ (p : ℕ). splice (a .band) (a .end) (each 0 (p + 1) (addRowValue p (a .first) (part (a .row) (a .row + (p + 1)) w)) (part (a .band) (a .end) w)) w) e
+
 add-a-end : tie.Need-add-a-end Inv-loop μ-loop
 add-a-end c = omega arith
 
 loop-holds : tie.Need-loop-holds Inv-loop μ-loop
 loop-holds c =
-    let a = c .before .args in
-    going-start (a .band) (a .end) (a .row) (a .row + (a .p + 1)) (addRowValue (a .p) (a .first)) (length-row-value (a .p) (a .first)) (a .work .now) (band-apart (c .before .pre)) 0 (a .p + 1)
+    let s = c .before .before in
+    let a = s .args in
+    going-start (a .band) (a .end) (a .row) (a .row + (a .p + 1)) (addRowValue (a .p) (a .first)) (length-row-value (a .p) (a .first)) (a .work .now) (band-apart (s .pre)) 0 (a .p + 1)
 
-add-x : tie.Need-add-x Inv-loop μ-loop
-add-x c = omega arith
-
-mul-x : tie.Need-mul-x Inv-loop μ-loop
-mul-x c = omega arith
-
-slice-read-x : tie.Need-slice-read-x Inv-loop μ-loop
-slice-read-x c = omega arith
-
-add-products-requires : tie.Need-add-products-requires Inv-loop μ-loop
-add-products-requires c κs = omega arith
+add-value-requires : tie.Need-add-value-requires Inv-loop μ-loop
+add-value-requires c κs = omega arith
 
 add-a : tie.Need-add-a Inv-loop μ-loop
 add-a c = omega arith
@@ -42,24 +55,22 @@ loop-less : tie.Need-loop-less Inv-loop μ-loop
 loop-less c = omega arith
 
 loop-again : tie.Need-loop-again Inv-loop μ-loop
-unfolding addRowValue
 loop-again c =
-    let at = c .before .before .before .before .before .before in
-    let s = at .before .before in
+    let at = c .before .before .before .before .before in
+    let s = at .before .before .before in
     let a = s .args in
-    let w : List Float = at .loop .work in
-    let x = getD-part (a .row) (a .row + (a .p + 1)) w (at .loop .a) nan (omega arith) in
-    going-turn (a .band) (a .end) (a .row) (a .row + (a .p + 1)) (addRowValue (a .p) (a .first)) (length-row-value (a .p) (a .first)) (a .work .now) (band-apart (s .pre)) 0 (a .p + 1) w _ (at .loop .a) (at .loop .inv) (omega arith)
-    (rw (← x) at (c .before .before .add-products .ensures))
+    going-turn (a .band) (a .end) (a .row) (a .row + (a .p + 1)) (addRowValue (a .p) (a .first)) (length-row-value (a .p) (a .first)) (a .work .now) (band-apart (s .pre)) 0 (a .p + 1) (at .loop .work) _ (at .loop .a) (at .loop .inv) (omega arith)
+    (c .before .before .add-value .ensures)
 
-same-length : tie.Need-same-length Inv-loop μ-loop
-same-length c = omega arith
+same-length-2 : tie.Need-same-length-2 Inv-loop μ-loop
+same-length-2 c = omega arith
 
-returns : tie.Need-returns Inv-loop μ-loop
-returns c =
+returns-2 : tie.Need-returns-2 Inv-loop μ-loop
+returns-2 c =
     let at = c .before in
-    let a = at .before .before .args in
-    going-end (a .band) (a .end) (a .row) (a .row + (a .p + 1)) (addRowValue (a .p) (a .first)) (length-row-value (a .p) (a .first)) (a .work .now) (band-apart (at .before .before .pre)) 0 (a .p + 1) (at .loop .work) (at .loop .a) (at .loop .inv) (omega arith)
+    let s = at .before .before .before in
+    let a = s .args in
+    going-end (a .band) (a .end) (a .row) (a .row + (a .p + 1)) (addRowValue (a .p) (a .first)) (length-row-value (a .p) (a .first)) (a .work .now) (band-apart (s .pre)) 0 (a .p + 1) (at .loop .work) (at .loop .a) (at .loop .inv) (omega arith)
 
 pub add-row-spec : {M : Type 1} → statement M
 add-row-spec =
@@ -67,14 +78,14 @@ add-row-spec =
     (tie.spec
     Inv-loop
     μ-loop
+    add-four-requires
+    same-length
+    returns
     add-a-end
     loop-holds
-    add-x
-    mul-x
-    slice-read-x
-    add-products-requires
+    add-value-requires
     add-a
     loop-less
     loop-again
-    same-length
-    returns)
+    same-length-2
+    returns-2)
