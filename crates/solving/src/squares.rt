@@ -10,11 +10,11 @@ ghost use Rattle.bands.specs.Cholesky.{substituteSymmetricBand};
 ghost use Rattle.solving.specs.LeastSquares.{addProduct, normalMatrix, addDatum, rightHand, leastSquares};
 ghost use Rattle.tables.specs.Layout.{tableIn, dataPoint, HasTable, HasData, HasSquares, Squared};
 ghost use Rattle.solving.specs.Steps.{addRowProduct, addRowValue, addToPole, OntoBand, OntoPoles};
-use tables::Data;
-use tables::Table;
 use bands::cholesky::factor_symmetric_band;
 use bands::cholesky::substitute_symmetric_band;
 use geometry::Point;
+use tables::Data;
+use tables::Table;
 
 // A pivot at or below this times the largest diagonal is undetermined.
 const RELATIVE_FLOOR: f64 = 1e-12;
