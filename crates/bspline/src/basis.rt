@@ -87,8 +87,8 @@ fn cubic_values(work: &mut [f64], knot: usize, u: f64, start: usize)
     work[start + 3] = a * z;
 }
 
-// The functions of any degree, two degrees in a pass.
-fn paired_values(work: &mut [f64], knot: usize, degree: usize, u: f64, start: usize)
+// The functions of any degree, two degrees in a pass. The reader takes them for degree 3 too: it has just copied the knots, and reading them two at a time would wait.
+pub fn paired_values(work: &mut [f64], knot: usize, degree: usize, u: f64, start: usize)
     requires { ⌜ (degree ≤ knot) × (knot + degree < start) × (start + degree < length (now work)) ⌝ }
     ensures { λ _. ⌜ now (work .exit) ≡ laid start (degree + 1) (at (basisAt (now (work .entry)) degree knot u)) (now (work .entry)) ⌝ }
 {

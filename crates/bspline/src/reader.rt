@@ -61,7 +61,7 @@ fn window_point(
     let to = span + degree + 1;
     let start = 2 * degree + 1;
     places::copy(&flat[from..to], row);
-    crate::basis::basis_values(row, degree, degree, u, start);
+    crate::basis::paired_values(row, degree, degree, u, start);
     pole_sum(&row[start..], poles, from, degree + 1)
 }
 

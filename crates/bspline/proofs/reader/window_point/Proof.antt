@@ -39,8 +39,8 @@ part-copy-end c = search needs
 copy-requires : tie.Need-copy-requires
 copy-requires c κs = search needs
 
-basis-values-requires : tie.Need-basis-values-requires
-basis-values-requires c κs = search needs
+paired-values-requires : tie.Need-paired-values-requires
+paired-values-requires c κs = search needs
 
 mul-pole-sum : tie.Need-mul-pole-sum
 mul-pole-sum c = search needs
@@ -68,7 +68,7 @@ returns c =
     let start = c .before .before .before .before .before .before .before .before .before .before .before .before .before .before .before in
     let a = start .args in
     let copied = c .before .before .before .before .before .before .before .before .before .copy in
-    let basis = c .before .before .before .before .before .basis-values in
+    let basis = c .before .before .before .before .before .paired-values in
     let long : length (basis .last .0) ≡ length (a .row .now) = basis .kept .0 ∙ copied .kept .1 .0 in
     c .pole-sum .ensures
     ∙ weighted-same _ _ _ _ _
@@ -89,7 +89,7 @@ window-point-spec =
     part-copy-start
     part-copy-end
     copy-requires
-    basis-values-requires
+    paired-values-requires
     mul-pole-sum
     sub-pole-sum
     part-pole-sum-start
