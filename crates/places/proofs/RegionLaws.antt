@@ -104,16 +104,6 @@ pub set-append-add {ℓ} : {A : Type ℓ} (p q : List A) (i : ℕ) (v : A) → s
 set-append-add [] q i v = rw zero-add
 set-append-add (x ∷ p) q i v = rw (suc-add, set-append-add p q i v)
 
--- a store in a region
-pub set-in-part {ℓ} : {A : Type ℓ} (a e : ℕ) (l : List A) (i : ℕ) (v : A) → a + i < e → e ≤ length l → set l (a + i) v ≡ splice a e (set (part a e l) i v) l
-set-in-part a e l i v h k =
-    let t : length (take a l) ≡ a = length-take-le a l (omega arith) in
-    let p : length (part a e l) ≡ e - a = length-part a e l k in
-    ap (λ (x : List _). set x (a + i) v) (parted a e l)
-    ∙ ap (λ (m : ℕ). set (take a l ++ (part a e l ++ drop (e - a) (drop a l))) (m + i) v) (sym t)
-    ∙ set-append-add (take a l) (part a e l ++ drop (e - a) (drop a l)) i v
-    ∙ ap (λ (x : List _). take a l ++ x) (set-append-left (part a e l) (drop (e - a) (drop a l)) i v (omega arith))
-
 module _ {ℓ} {A : Type ℓ} (a e : ℕ) (ys l : List A) (h : a ≤ e) (k : e ≤ length l) (n : length ys ≡ e - a) (d : A) where
   pub getD-in : (i : ℕ) → a + i < e → getD (splice a e ys l) (a + i) d ≡ getD ys i d
   getD-in i m = sym (getD-part a e (splice a e ys l) i d m) ∙ ap (λ (x : List A). getD x i d) (part-splice a e ys l h k n)

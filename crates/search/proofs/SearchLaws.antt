@@ -162,10 +162,7 @@ fitted-narrower s n p e = let b = try-between s n p e in omega (arith, b .0, b .
 pub failed-narrower : (s : Search) (n : ℕ) → 1 ≤ s .step → nextOf s ≡ Try n → width (failedAt s n) < width s
 failed-narrower s n p e = let b = try-between s n p e in omega (arith, b .0, b .1)
 
--- what the arithmetic wants, from the start on
-pub bounded-start : (degree last : ℕ) → degree ≤ last → last ≤ 1024 → Bounded (start degree last)
-bounded-start degree last h k = record { rises = omega arith; apart = h; small = k }
-
+-- what the arithmetic wants
 pub bounded-fitted : (s : Search) (n : ℕ) → nextOf s ≡ Try n → Bounded s → Bounded (fittedAt s n)
 bounded-fitted s n e h =
     let b = try-between s n (h .rises) e in

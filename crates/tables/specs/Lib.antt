@@ -1,4 +1,4 @@
--- Fits on given knots: the basis table, least squares, interpolation, and how far each point lies from its fit.
+-- The basis table, the kinds of data, and how far each point lies from a fit.
 pub mod BasisTable
 pub mod Rows
 pub mod Deviations
