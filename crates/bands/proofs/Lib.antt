@@ -5,4 +5,5 @@ pub mod PivotLaws
 pub mod CholeskyLaws
 pub mod LuLaws
 pub mod NarrowLaws
+pub mod CarriedLaws
 pub mod Examples

@@ -6,4 +6,5 @@ pub mod Shapes
 pub mod SolvedRow
 pub mod BelowPivot
 pub mod Narrow
+pub mod Carried
 pub mod Textbook

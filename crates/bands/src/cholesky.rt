@@ -2,7 +2,7 @@
 ghost use mathlib.Core.Path.{_≡_};
 ghost use Prim.Native.Nat.{_+_, _*_, _≤_, _<_};
 ghost use lib.ListN.{length};
-ghost use Rattle.places.specs.Loops.{each, down, outcome};
+ghost use Rattle.places.specs.Loops.{each, down, outcome, eachWhile};
 ghost use Rattle.places.specs.Regions.{part, splice};
 ghost use Rattle.bands.specs.Cholesky.{reducedEntry, factorEntry, factorLeft, undetermined, factorRow, largestDiagonal, factorSymmetricBand, forwardRow, backPoint, backRow, substituteSymmetricBand};
 ghost use Rattle.bands.specs.Shapes.{HasRow, Solvable};
@@ -45,7 +45,7 @@ fn factor_left(lower: &mut [f64], h: usize, i: usize)
 }
 
 // Whether a pivot is NaN or at most the floor.
-fn is_undetermined(floor: f64, sum: f64) -> bool
+pub fn is_undetermined(floor: f64, sum: f64) -> bool
     ensures { λ r. ⌜ r ≡ undetermined floor sum ⌝ }
 {
     if sum != sum { true } else { sum <= floor }
@@ -80,6 +80,19 @@ fn largest_diagonal(lower: &[f64], h: usize, n: usize) -> f64
     largest
 }
 
+// The first n rows of L, in place; false where a pivot is undetermined.
+pub fn factor_rows(lower: &mut [f64], h: usize, n: usize, floor: f64) -> bool
+    requires { ⌜ (h ≤ 25) × (n * (h + 1) ≤ length (now lower)) ⌝ }
+    ensures { λ r. ⌜ outcome r (now (lower .exit)) ≡ eachWhile 0 n (factorRow h floor) (now (lower .entry)) ⌝ }
+{
+    for i in 0..n {
+        if !factor_row(lower, h, i, floor) {
+            return false;
+        }
+    }
+    true
+}
+
 // Cholesky's factor of the n rows of the lower half-band of a symmetric matrix, in place; false where a pivot is NaN or
 // falls to `relative` times the largest diagonal or below.
 pub fn factor_symmetric_band(lower: &mut [f64], h: usize, n: usize, relative: f64) -> bool
@@ -87,12 +100,10 @@ pub fn factor_symmetric_band(lower: &mut [f64], h: usize, n: usize, relative: f6
     ensures { λ r. ⌜ outcome r (now (lower .exit)) ≡ factorSymmetricBand h n relative (now (lower .entry)) ⌝ }
 {
     let floor = relative * largest_diagonal(lower, h, n);
-    for i in 0..n {
-        if !factor_row(lower, h, i, floor) {
-            return false;
-        }
+    if h == 3 {
+        return super::carried::factor_carried(lower, n, floor);
     }
-    true
+    factor_rows(lower, h, n, floor)
 }
 
 // L y = b in place.

@@ -1,5 +1,6 @@
 // Band matrices, stored row by row in lent slices: Cholesky's factor and LU without pivoting, and the substitutions (document 01, part 3; curves/fitting.rs).
 // Here is what the two share: entries, the columns of a row, and one row of a triangular system.
+pub mod carried;
 pub mod cholesky;
 pub mod lu;
 pub mod narrow;

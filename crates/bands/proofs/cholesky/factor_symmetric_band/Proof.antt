@@ -1,80 +1,55 @@
--- The loop's invariant: what the rows that are left make of the list, if none stops, is what all of them make of it. Assumes nothing.
-use mathlib.Core.Path.{_≡_, refl, sym, _∙_}
-use Prim.Native.Nat.{_+_, _-_}
+-- Half-width 3 has a way of its own. Assumes nothing.
+use mathlib.Core.Path.{_≡_, ap, _∙_, subst}
+use Prim.Native.Nat.{ℕ, _+_, _*_, _≤_}
 use native.Mathlib.Omega.{arith}
-use borrow.Author.Tests.{not-true, not-false}
+use denote.Ref.{now}
 use lib.ListN.{length}
 use Rattle.places.specs.Loops.{eachWhile}
-use Rattle.places.proofs.LoopLaws.{while-done, while-on, while-off}
-use Rattle.places.proofs.PlaceLaws.{row-in}
-use Rattle.bands.specs.Cholesky.{factorRow, factorSymmetricBand}
+use Rattle.geometry.specs.Doubles.{_⊗_}
+use Rattle.bands.specs.Cholesky.{factorRow, largestDiagonal, factorSymmetricBand}
 use Rattle.bands.proofs.cholesky.factor_symmetric_band.Statement.{statement}
 use Rattle.bands.proofs.cholesky.factor_symmetric_band.Tie as tie
 
-abbrev Inv-loop : tie.InvT-loop
-Inv-loop lower₀ h n relative floor i₀ lower i = (length lower ≡ length lower₀) × (eachWhile i n (factorRow h floor) lower ≡ factorSymmetricBand h n relative lower₀)
-
-abbrev μ-loop : tie.MeasureT-loop
-μ-loop lower₀ h n relative floor i₀ lower i = n - i
-
-largest-diagonal-requires : tie.Need-largest-diagonal-requires Inv-loop μ-loop
+largest-diagonal-requires : tie.Need-largest-diagonal-requires
 largest-diagonal-requires c κs = omega arith
 
-loop-holds : tie.Need-loop-holds Inv-loop μ-loop
-unfolding factorSymmetricBand
-loop-holds c = (refl, rw (c .largest-diagonal .ensures))
+factor-carried-requires : tie.Need-factor-carried-requires
+factor-carried-requires c κs =
+    let s = c .before .before .before .before .before in
+    let a = s .args in
+    let e : a .h ≡ 3 = omega arith in
+    subst (λ (h : ℕ). a .n * (h + 1) ≤ length (now (a .lower))) e (s .pre .1)
 
-factor-row-requires : tie.Need-factor-row-requires Inv-loop μ-loop
-factor-row-requires c κs =
-    let at = c .before .before in
-    let a = at .before .before .before .before .args in
-    omega (arith, row-in (at .loop .i) (a .n) (a .h + 1) (omega arith))
-
-same-length : tie.Need-same-length Inv-loop μ-loop
+same-length : tie.Need-same-length
 same-length c = omega arith
 
-returns : tie.Need-returns Inv-loop μ-loop
+returns : tie.Need-returns
+unfolding factorSymmetricBand
 returns c =
-    let g = c .before .before .before in
-    let at = g .before .before .before in
-    let a = at .before .before .before .before .args in
-    sym (while-off (at .loop .i) (a .n) _ (at .loop .lower) (omega arith) _ (rw (not-true (g .factor-row .result) (c .if1 .taken)) at (g .factor-row .ensures))) ∙ at .loop .inv .1
+    let a = c .before .before .before .before .before .before .before .before .args in
+    let l = now (a .lower) in
+    let e : 3 ≡ a .h = omega arith in
+    c .before .before .factor-carried .ensures
+    ∙ rw (c .before .before .before .before .before .largest-diagonal .ensures) (ap (λ (h : ℕ). eachWhile 0 (a .n) (factorRow h (a .relative ⊗ largestDiagonal (a .h) (a .n) l)) l) e)
 
-add-i : tie.Need-add-i Inv-loop μ-loop
-add-i c = omega arith
+factor-rows-requires : tie.Need-factor-rows-requires
+factor-rows-requires c κs = omega arith
 
-loop-less : tie.Need-loop-less Inv-loop μ-loop
-loop-less c = omega arith
-
-loop-again : tie.Need-loop-again Inv-loop μ-loop
-loop-again c =
-    let g = c .before .before .before in
-    let at = g .before .before .before in
-    let a = at .before .before .before .before .args in
-    (omega arith, sym (while-on (at .loop .i) (a .n) _ (at .loop .lower) (omega arith) _ (rw (not-false (g .factor-row .result) (c .if1 .left)) at (g .factor-row .ensures))) ∙ at .loop .inv .1)
-
-same-length-2 : tie.Need-same-length-2 Inv-loop μ-loop
+same-length-2 : tie.Need-same-length-2
 same-length-2 c = omega arith
 
-returns-2 : tie.Need-returns-2 Inv-loop μ-loop
-returns-2 c =
-    let at = c .before in
-    let a = at .before .before .before .before .args in
-    sym (while-done (at .loop .i) (a .n) _ (at .loop .lower) (omega arith)) ∙ at .loop .inv .1
+returns-2 : tie.Need-returns-2
+unfolding factorSymmetricBand
+returns-2 c = c .before .before .factor-rows .ensures ∙ rw (c .before .before .before .before .before .largest-diagonal .ensures)
 
 pub factor-symmetric-band-spec : {M : Type 1} → statement M
 factor-symmetric-band-spec =
     tie.close
     (tie.spec
-    Inv-loop
-    μ-loop
     largest-diagonal-requires
-    loop-holds
-    factor-row-requires
+    factor-carried-requires
     same-length
     returns
-    add-i
-    loop-less
-    loop-again
+    factor-rows-requires
     same-length-2
     returns-2)
