@@ -1,9 +1,2 @@
--- Laws that belong to no one function. `CholeskyLaws` and `LuLaws` are the textbook's equations; other crates cite them as Rattle.bands.proofs.NAME.
+-- Laws that belong to no one function.
 pub mod Rows
-pub mod Lengths
-pub mod PivotLaws
-pub mod CholeskyLaws
-pub mod LuLaws
-pub mod NarrowLaws
-pub mod CarriedLaws
-pub mod Examples

@@ -1,10 +1,4 @@
--- Band matrices: Cholesky's factor, LU without pivoting, and the substitutions. All widths together.
+-- Band matrices: entries, what functions require of slices, one row of a triangular system. All widths together.
 pub mod Bands
-pub mod Cholesky
-pub mod BandLu
 pub mod Shapes
 pub mod SolvedRow
-pub mod BelowPivot
-pub mod Narrow
-pub mod Carried
-pub mod Textbook

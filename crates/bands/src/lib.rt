@@ -1,17 +1,11 @@
-// Band matrices, stored row by row in lent slices: Cholesky's factor and LU without pivoting, and the substitutions (document 01, part 3; curves/fitting.rs).
-// Here is what the two share: entries, the columns of a row, and one row of a triangular system.
-pub mod carried;
-pub mod cholesky;
-pub mod lu;
-pub mod narrow;
-
+// Band matrices, stored row by row in lent slices (document 01, part 3; curves/fitting.rs): entries, the columns of a row, and one row of a triangular system, for
+// Cholesky's factor and LU alike.
 ghost use mathlib.Core.Path.{_≡_};
 ghost use Prim.Native.Nat.{_-_, _<_};
 ghost use lib.ListN.{length};
 ghost use Rattle.places.specs.Regions.{part, splice};
 ghost use Rattle.geometry.specs.Points.{putPoint};
-ghost use Rattle.bands.specs.Bands.{entry, putEntry};
-ghost use Rattle.bands.specs.BandLu.{reach};
+ghost use Rattle.bands.specs.Bands.{entry, putEntry, reach};
 ghost use Rattle.bands.specs.Shapes.{InBand, Columns, Regions};
 ghost use Rattle.bands.specs.SolvedRow.{solvedRow};
 use geometry::Point;
@@ -33,14 +27,14 @@ pub fn put_band_entry(band: &mut [f64], w: usize, h: usize, i: usize, j: usize, 
 }
 
 // The first column that row i reaches.
-fn row_start(h: usize, i: usize) -> usize
+pub fn row_start(h: usize, i: usize) -> usize
     ensures { λ r. ⌜ r ≡ i - h ⌝ }
 {
     if i < h { 0 } else { i - h }
 }
 
 // One past the last column that row i of n reaches.
-fn row_end(h: usize, n: usize, i: usize) -> usize
+pub fn row_end(h: usize, n: usize, i: usize) -> usize
     requires { ⌜ i < n ⌝ }
     ensures { λ r. ⌜ r ≡ reach h n i ⌝ }
 {
@@ -71,7 +65,7 @@ fn solved_row(
 }
 
 // The same in a work slice, put in its place: the factors are at l0..l1 and the points at p0..p1.
-fn solve_row(
+pub fn solve_row(
     work: &mut [f64],
     l0: usize,
     l1: usize,

@@ -1,8 +1,8 @@
 -- Checks one after the other, and what a curve that passes the reader's has. Assumes nothing.
-use mathlib.Core.Path.{_≡_, refl, sym, _∙_, ap, subst}
+use mathlib.Core.Path.{_≡_, refl, _∙_, ap}
 use mathlib.Core.Bool.{Bool, true, false, not, _||_}
 use mathlib.Core.List.{List}
-use Prim.Native.Nat.{ℕ, _+_, _-_, _*_, _/_, _%_, _<_, _≤_}
+use Prim.Native.Nat.{ℕ, _+_, _-_, _≤_}
 use native.Mathlib.Omega.{arith}
 use borrow.Author.Tests.{ltb-false, eqb-true, not-false}
 use lib.Dec.{ltb, eqb}
@@ -19,7 +19,7 @@ use Rattle.bspline.specs.declared.Reading.{Reading}
 use Rattle.bspline.specs.declared.Reading.the-variants.{Refused}
 use Rattle.bspline.specs.Refusals.{stop-if, _next_}
 use Rattle.bspline.specs.Spans.{NeverFalls, firstParameter, lastParameter}
-use Rattle.bspline.specs.Reader.{notIncreasing, noMultiplicity, notFinite, notReadable, sumOf, flatKnots, sizesVerdict, knotsVerdict, readerVerdict, readingOf, readingNumber, verdictNumber, curvePoint, Sized, Counted, Reads}
+use Rattle.bspline.specs.Reader.{notIncreasing, noMultiplicity, notFinite, notReadable, flatKnots, sizesVerdict, knotsVerdict, readerVerdict, readingOf, readingNumber, verdictNumber, curvePoint, Sized, Counted, Reads}
 use Rattle.bspline.proofs.ReaderLaws.{length-flat, flat-never-falls}
 
 -- both pass where the two pass together

@@ -1,13 +1,13 @@
 -- Laws of the reader's definitions: sums of multiplicities, flat knots, and the checks. Assumes nothing.
-use Prim.Native.Nat.{ℕ, zero, suc, _+_, _-_, _*_, _≤_, _<_}
+use Prim.Native.Nat.{ℕ, zero, suc, _+_, _-_, _≤_, _<_}
 use native.Mathlib.Omega.{arith}
 use native.Mathlib.Numerals.{add-one}
 use mathlib.Core.Path.{_≡_, refl, sym, ap, _∙_, subst}
-use mathlib.Core.List.{List, [], _∷_, _++_}
-use lib.ListN.{length, getD, drop, replicate, drop-of-length-le, length-append, length-replicate, getD-replicate, List·getD-append}
+use mathlib.Core.List.{List, [], _++_}
+use lib.ListN.{length, drop, replicate, drop-of-length-le, length-append, length-replicate, getD-replicate, List·getD-append}
 use lib.Seq.{drop-cons, getD-append-add}
 use lib.Dec.{T}
-use mathlib.Core.Bool.{Bool, true, false, not}
+use mathlib.Core.Bool.{true, false, not}
 use mathlib.Core.Logic.{⊎-elim}
 use native.Mathlib.Nat.{not-suc-le-zero}
 use lib.Ieee.{Float, nan, le, isNan}

@@ -1,21 +1,19 @@
 -- Laws of the basis functions' recurrence, in the terms in which the code computes it. Assumes nothing.
 use Prim.Native.Nat.{ℕ, zero, suc, _+_, _-_, _*_, _≤_, _<_}
 use native.Mathlib.Omega.{arith}
-use native.Mathlib.Nat.{le-refl, eq-or-lt-of-le, not-suc-le-zero, add-zero, ne-of-lt}
+use native.Mathlib.Nat.{le-refl, eq-or-lt-of-le, add-zero, ne-of-lt}
 use native.Mathlib.Numerals.{add-one}
 use mathlib.Core.Logic.{⊎-elim}
-use mathlib.Core.Path.{_≡_, refl, sym, ap, _∙_, subst}
-use mathlib.Core.Bool.{cond}
+use mathlib.Core.Path.{_≡_, refl, sym, ap, _∙_}
 use mathlib.Core.List.{List, [], _∷_, _++_}
-use lib.Dec.{ltb}
 use lib.Ieee.{Float, nan}
-use lib.ListN.{length, set, drop, length-append, length-drop, List·getD-append}
-use lib.Seq.{drop-append-add, drop-drop, set-set, getD-set-other}
+use lib.ListN.{length, set, drop, List·getD-append}
+use lib.Seq.{set-set, getD-set-other}
 use borrow.Author.Tests.{lt-ltb, le-ltb}
 use Rattle.places.specs.Places.{listOf, laid}
 use Rattle.places.specs.Regions.{part}
 use Rattle.places.proofs.RegionLaws.{length-part, getD-part}
-use Rattle.places.proofs.PlaceLaws.{length-listOf, listOf-same, listOf-at, laid-front, laid-below, laid-at, laid-same, laid-over, laid-laid, laid-wider, length-laid, length-filled}
+use Rattle.places.proofs.PlaceLaws.{length-listOf, listOf-same, listOf-at, laid-below, laid-at, laid-same, laid-over, laid-laid, laid-wider, length-filled}
 use Rattle.geometry.specs.Doubles.{_⊕_, _⊖_, _⊗_, _⊘_, nought, one, at}
 use Rattle.bspline.specs.Basis.{share, rising, row, basis, leftOf, rightOf, basisAt}
 

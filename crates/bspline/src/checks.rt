@@ -1,6 +1,6 @@
 // The reader's checks in document 01's order: `validate_direction`'s, and those that document 01 adds.
 ghost use mathlib.Core.Path.{_≡_};
-ghost use Prim.Native.Nat.{ℕ, _+_, _*_, _≤_};
+ghost use Prim.Native.Nat.{_+_, _≤_};
 ghost use lib.ListN.{length};
 ghost use Rattle.bspline.specs.Reader.{notIncreasing, innerTooLarge, tooLarge, noMultiplicity, notFinite, sumOf, sizesVerdict, knotsVerdict, notReadable, flatKnots};
 use crate::Refusal;

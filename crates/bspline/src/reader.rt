@@ -1,7 +1,7 @@
 // The reader: a point of an archived curve (`KnotVector::new`, `KnotVector::basis`, and the poles summed as `BasisTable::point` does).
 ghost use mathlib.Core.Path.{_≡_};
 ghost use mathlib.Core.List.{_++_};
-ghost use Prim.Native.Nat.{ℕ, _+_, _-_, _*_, _/_, _<_, _≤_};
+ghost use Prim.Native.Nat.{_+_, _-_, _*_, _/_, _<_, _≤_};
 ghost use lib.ListN.{length, drop};
 ghost use Rattle.geometry.specs.Doubles.{at};
 ghost use Rattle.geometry.specs.Points.{weighted, pointAt};

@@ -27,7 +27,7 @@ use Rattle.tables.specs.Directions.{ladder, ladderPoint}
 use Rattle.solving.specs.Interpolation.{interpolation, interpolatedLine, interpolationMatrix}
 use Rattle.tables.proofs.SpliceLaws.{length-points}
 use Rattle.solving.proofs.ThroughLaws.{length-substitute}
-use Rattle.bands.specs.BandLu.{factorBand}
+use Rattle.lu.specs.BandLu.{factorBand}
 use Rattle.ladders.specs.declared.Answer.{Answer}
 use Rattle.ladders.specs.declared.Answer.the-variants.{Fitted}
 use Rattle.checks.specs.declared.Call.{Call}

@@ -1,8 +1,8 @@
 -- What a grid that passes the checks has. Assumes nothing.
 use mathlib.Core.Path.{_≡_}
 use mathlib.Core.List.{List}
-use Prim.Native.Nat.{ℕ, _+_, _-_, _*_, _≤_, _<_}
-use native.Mathlib.Nat.{mul-le-mul, mul-le-mul-right}
+use Prim.Native.Nat.{ℕ, _+_, _-_, _*_, _≤_}
+use native.Mathlib.Nat.{mul-le-mul}
 use native.Mathlib.Omega.{arith}
 use lib.ListN.{length}
 use lib.Ieee.{Float}
@@ -26,10 +26,6 @@ points-few rows cols h k = mul-le-mul {n₁ = rows} {m₁ = cols} {n₂ = 64} {m
 
 pub places-few : (count degree : ℕ) → count ≤ 128 → degree ≤ 50 → count * (6 * degree + 24) ≤ 41472
 places-few count degree h k = mul-le-mul {n₁ = count} {m₁ = 6 * degree + 24} {n₂ = 128} {m₂ = 324} h (omega arith)
-
--- point k of line l lies among the lines' points
-pub place-below : (l k lines count : ℕ) → l < lines → k < count → l * count + k < lines * count
-place-below l k lines count h g = let a : (l + 1) * count ≤ lines * count = mul-le-mul-right count (omega arith) in omega arith
 
 pub grid-shaped : (places : ℕ) (h : Shape) → gridShapeVerdict places h ≡ Pass → GridShaped places h
 unfolding gridShapeVerdict

@@ -1,11 +1,11 @@
 -- Document 01's M cases: one table, one theorem, of the definitions.
 use mathlib.Core.Path.{_≡_, refl}
-use mathlib.Core.Bool.{Bool, false}
+use mathlib.Core.Bool.{false}
 use mathlib.Core.List.{List, [], _∷_}
-use mathlib.Core.Option.{Option, some}
+use mathlib.Core.Option.{some}
 use Prim.Native.Nat.{ℕ}
 use lib.Dec.{eqb}
-use lib.Ieee.{Float, binary64, ofBits}
+use lib.Ieee.{Float}
 use Rattle.places.specs.Places.{listOf}
 use Rattle.geometry.specs.Root.{sqrtOf}
 use Rattle.geometry.specs.Points.{pointAt}

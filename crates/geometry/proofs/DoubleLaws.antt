@@ -2,7 +2,7 @@
 use mathlib.Core.Path.{_≡_, refl, sym, ap, _∙_, subst}
 use mathlib.Core.Bool.{Bool, true, false, not, true≢false, false≢true}
 use lib.Dec.{T}
-use lib.Ieee.{Float, nan, inf, fin, binary64, lt, ne, neg, div, ofBits, isNan}
+use lib.Ieee.{Float, nan, inf, fin, lt, ne, neg, div, ofBits, isNan}
 use lib.Ieee.Compare.{differs-from-itself, nan-differs}
 use Rattle.geometry.specs.Doubles.{nought, one, _⊘_, isFinite}
 

@@ -2,20 +2,19 @@
 use mathlib.Core.Path.{_≡_, refl, sym, ap, _∙_, subst}
 use mathlib.Core.Logic.{_⊎_, inl, inr}
 use Prim.Native.Nat.{ℕ, zero, suc, _+_, _-_, _*_, _/_, _%_, _^_, _≤_, _<_, compare}
-use native.Mathlib.Nat.{le-trans, le-of-eq, le-of-lt, le-refl, lt-of-lt-of-le, lt-of-le-of-lt, lt-of-not-le, not-le-of-lt, lt-irrefl, eq-or-lt-of-le, mod-eq-of-lt, mod-lt, zero-lt-suc, zero-add, zero-mul, mul-one, one-mul, mul-pos, mul-assoc, mul-right-comm, mul-le-mul, mul-le-mul-right, mul-div-cancel, div-lt-iff-lt-mul, le-div-iff-mul-le, sub-le}
+use native.Mathlib.Nat.{le-trans, le-of-eq, lt-of-lt-of-le, lt-of-le-of-lt, lt-of-not-le, not-le-of-lt, lt-irrefl, eq-or-lt-of-le, mod-eq-of-lt, zero-add, zero-mul, mul-one, one-mul, mul-pos, mul-assoc, mul-right-comm, mul-le-mul, mul-le-mul-right, mul-div-cancel, div-lt-iff-lt-mul, le-div-iff-mul-le}
 use native.Mathlib.Omega.{arith}
 use mathlib.Core.Bool.{Bool, true, false, not, cond, true≢false}
-use lib.IntN.{ℤ, pos}
-use lib.Dec.{T, leb, ltb, eqb, leb→le, le→leb, lt→ltb, ltb→lt, nltb→le, eqb→eq, not-T, lit<, lit≤}
+use lib.Dec.{T, leb, ltb, eqb, ltb→lt, nltb→le, lit<, lit≤}
 use lib.Pow.{pow-add, pow-pos, pow-mono, shl-lt}
 use lib.Count.{leadingZeros, leading-top}
-use lib.Ieee.{Float, nan, inf, fin, binary64, up, down, size, odd, units, nearest, ofFields, ofBits, toBits, nanBits, isNan, fits}
+use lib.Ieee.{Float, nan, inf, fin, binary64, up, down, size, odd, units, ofFields, ofBits, toBits, nanBits, isNan, fits}
 use lib.Ieee.Digits.{size-lt, size-le, size-reaches}
-use lib.Ieee.Bits.{is-true, is-false, cond-no, ofBits-toBits, nanBits-is}
+use lib.Ieee.Bits.{ofBits-toBits, nanBits-is}
 use lib.Ieee.Exact.{HasValue, odd-sign, units-val}
 use lib.Ieee.Fits.{odd-fits, down-pos, nearest-le}
 use lib.Ieee.Nearest.{nearest-ge}
-use borrow.Author.Tests.{lt-ltb, le-ltb, lt-leb, le-leb, ne-eqb, leb-false}
+use borrow.Author.Tests.{lt-ltb, le-ltb, lt-leb, ne-eqb, leb-false}
 use Rattle.geometry.specs.Root.{sqrtOf, wholeRoot, nearestRoot, rootUnits}
 use Rattle.geometry.specs.RootSteps.{rootBits, patternUnits}
 use Rattle.geometry.proofs.Whole.{sq-lt, whole-root}

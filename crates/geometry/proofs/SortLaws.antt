@@ -1,16 +1,16 @@
 -- The laws of inserting into a sorted list, and of sorting. Assumes nothing.
 use mathlib.Core.Path.{_≡_, refl, sym, _∙_, ap, subst}
-use mathlib.Core.Bool.{Bool, true, false, cond, not}
+use mathlib.Core.Bool.{Bool, true, false, cond}
 use mathlib.Core.List.{List, [], _∷_, _++_, append-assoc}
 use Prim.Native.Nat.{ℕ, zero, suc, _+_, _-_, _≤_, _<_}
-use native.Mathlib.Nat.{le-refl, le-of-lt, le-trans}
+use native.Mathlib.Nat.{le-of-lt, le-trans}
 use native.Mathlib.Numerals.{add-one}
 use native.Mathlib.Omega.{arith}
 use borrow.Author.Tests.{ltb-true, ltb-false, leb-true, leb-false, lt-ltb, le-ltb, le-leb, lt-leb}
 use lib.Dec.{T, ltb, leb}
 use lib.ListN.{length, getD, set, take, drop, length-append, drop-of-length-le}
 use lib.Seq.{take-suc, take-length, take-all, drop-cons, split-at, set-at, getD-at, take-at, drop-at, length-take-le}
-use lib.Ieee.{Float, nan, inf, fin, ne, isNan, toBits}
+use lib.Ieee.{Float, nan, ne, toBits}
 use lib.Ieee.Compare.{differs-from-itself}
 use Rattle.geometry.specs.Order.{rankOf, inserted, sortedOnto, sorted, NoneBelow, Ascending}
 

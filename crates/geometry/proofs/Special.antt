@@ -1,20 +1,20 @@
 -- `sqrtOf` at a NaN, a zero, a negative value and the infinity, by the tests that `sqrt` makes, and at a positive value by its pattern. Assumes nothing.
 use mathlib.Core.Path.{_≡_, refl, sym, ap, _∙_, subst}
 use Prim.Native.Nat.{ℕ, zero, suc, _+_, _*_, _^_, _<_, _≤_}
-use native.Mathlib.Nat.{mul-pos, zero-lt-suc, zero-mul, mul-one, lt-irrefl, eq-zero-or-pos}
+use native.Mathlib.Nat.{mul-pos, zero-lt-suc, zero-mul, lt-irrefl, eq-zero-or-pos}
 use native.Mathlib.Omega.{arith}
 use mathlib.Core.Logic.{_⊎_, inl, inr}
 use mathlib.Core.Bool.{Bool, true, false, not, _&&_, _||_, Bool·beq, true≢false, false≢true}
 use borrow.Author.Tests.{ltb-true, ltb-false}
 use lib.IntN.{ℤ}
-use lib.Dec.{T, ltb, eqb, eqb→eq, lt→ltb}
-use lib.Ieee.{Float, nan, inf, fin, binary64, up, down, ofBits, toBits, nanBits, isNan, div, lt, eq, ne, fits}
-use lib.Ieee.Fits.{up-pos, down-pos, and-l}
+use lib.Dec.{T, eqb, eqb→eq}
+use lib.Ieee.{Float, nan, inf, fin, binary64, up, down, ofBits, toBits, nanBits, div, lt, eq, ne, fits}
+use lib.Ieee.Fits.{up-pos, and-l}
 use lib.Ieee.Bits.{ofBits-toBits}
 use lib.Ieee.Exact.{HasValue}
 use Rattle.geometry.specs.Root.{sqrtOf}
 use Rattle.geometry.specs.RootSteps.{rootBits, patternUnits}
-use Rattle.geometry.proofs.Patterns.{NotPositive, not-positive, value-of, units-range, squared-range, root-pattern, root-no-nan, sqrt-at}
+use Rattle.geometry.proofs.Patterns.{NotPositive, value-of, units-range, squared-range, root-pattern, root-no-nan, sqrt-at}
 
 -- the size of m * 2 ^ e, m above 0, as `lt` and `eq` compare it with 0
 size-pos : (m : ℕ) (e : ℤ) → 0 < suc m * up e * 1

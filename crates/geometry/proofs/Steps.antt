@@ -1,11 +1,10 @@
 -- The arithmetic of the two steps to a root: the mean of a guess and m / guess, and the root of n * 4 ^ 26 from that of n. Assumes nothing.
 use mathlib.Core.Path.{_≡_, refl, sym, ap, _∙_, subst}
-use mathlib.Core.Logic.{_⊎_, inl, inr}
 use Prim.Native.Nat.{ℕ, zero, suc, _+_, _-_, _*_, _/_, _%_, _^_, _≤_, _<_}
-use native.Mathlib.Nat.{le-trans, le-of-eq, le-of-lt, lt-of-lt-of-le, lt-of-le-of-lt, lt-of-not-le, le-dest, mul-le-mul, mul-le-mul-left, mul-le-mul-right, mul-lt-mul-of-pos-right, div-lt-iff-lt-mul, lt-suc-self, div-add-mod', mod-lt, le-of-mul-le-mul-right}
+use native.Mathlib.Nat.{le-of-lt, lt-of-lt-of-le, lt-of-le-of-lt, lt-of-not-le, le-dest, mul-le-mul, mul-le-mul-right, mul-lt-mul-of-pos-right, div-lt-iff-lt-mul, lt-suc-self, div-add-mod', mod-lt, le-of-mul-le-mul-right}
 use native.Mathlib.Decide.{decLe}
 use native.Mathlib.Omega.{arith}
-use lib.Dec.{ltb, lit<, lit≤}
+use lib.Dec.{ltb, lit<}
 use borrow.Author.Tests.{lt-ltb, le-ltb}
 use mathlib.Core.Bool.{Bool, cond}
 use lib.Pow.{pow-add}

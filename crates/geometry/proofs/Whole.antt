@@ -1,17 +1,16 @@
 -- The whole root of a whole number, and the whole number nearest to a root: laws on plain numbers. Assumes nothing.
 use mathlib.Core.Path.{_≡_, refl, sym, ap, _∙_, subst}
-use mathlib.Core.Logic.{_⊎_, inl, inr}
 use mathlib.Core.Bool.{Bool, true, false, not, cond}
-use Prim.Native.Nat.{ℕ, zero, suc, _+_, _-_, _*_, _/_, _%_, _^_, _≤_, _<_, compare, Ordering, Ordering·lt, Ordering·eq, Ordering·gt}
-use native.Mathlib.Nat.{le-refl, le-trans, le-of-eq, le-of-lt, lt-of-lt-of-le, lt-of-le-of-lt, lt-of-not-le, not-le-of-lt, lt-irrefl, le-of-suc-le-suc, mul-le-mul, mul-le-mul-right, mul-lt-mul-of-pos-right, le-antisymm, div-eq-of-lt-le, pow-suc, div-lt-iff-lt-mul, zero-lt-suc, mul-pos, le-div-iff-mul-le}
+use Prim.Native.Nat.{ℕ, zero, suc, _+_, _-_, _*_, _/_, _^_, _≤_, _<_, compare, Ordering, Ordering·lt, Ordering·eq, Ordering·gt}
+use native.Mathlib.Nat.{le-trans, le-of-eq, lt-of-lt-of-le, lt-of-le-of-lt, lt-of-not-le, not-le-of-lt, mul-le-mul, mul-le-mul-right, mul-lt-mul-of-pos-right, div-eq-of-lt-le, div-lt-iff-lt-mul, zero-lt-suc, mul-pos, le-div-iff-mul-le}
 use native.Mathlib.Omega.{arith}
 use lib.Dec.{T, leb, ltb, eqb, isLe, isEq, leb→le, nleb→lt, ltb→lt, nltb→le, eqb→eq, eqb-refl}
 use lib.Arith.{lt-of-le-ne}
 use native.Mathlib.Numerals.{add-one}
 use lib.Pow.{pow-pos, pow-mono, pow-add}
-use lib.Ieee.{size, nearest, units, binary64}
-use lib.Ieee.Digits.{size-lt, size-le, size-reaches}
-use Rattle.geometry.specs.Root.{oneMore, rootBelow, wholeRoot, nearestRoot, rootUnits}
+use lib.Ieee.{size, nearest}
+use lib.Ieee.Digits.{size-lt, size-le}
+use Rattle.geometry.specs.Root.{oneMore, rootBelow, wholeRoot, nearestRoot}
 use Rattle.geometry.specs.RootSteps.{rootBits, RootOf}
 
 -- of two squares the smaller has the smaller root

@@ -4,7 +4,7 @@ pub mod order;
 pub mod root;
 
 ghost use mathlib.Core.Path.{_≡_};
-ghost use Prim.Native.Nat.{ℕ, _+_, _*_, _≤_};
+ghost use Prim.Native.Nat.{_+_, _*_, _≤_};
 ghost use lib.ListN.{length};
 ghost use Rattle.geometry.specs.Points.{distance, squaredDistance, plusScaled, lessScaled, scaled, pointAt, putPoint};
 

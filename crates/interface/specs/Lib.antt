@@ -1,3 +1,2 @@
--- What a call for C hands back.
-pub mod Told
-pub mod ToldGrid
+-- What the reader for C hands back.
+pub mod ToldReading

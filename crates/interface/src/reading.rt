@@ -1,10 +1,7 @@
 // The reader.
 ghost use mathlib.Core.Path.{_≡_};
-ghost use mathlib.Core.Bool.{cond};
-ghost use lib.Dec.{ltb};
-ghost use lib.ListN.{length};
 ghost use Rattle.bspline.specs.Reader.{readerVerdict, readingOf, curvePoint, flatKnots};
-ghost use Rattle.interface.specs.Told.{toldReading, toldPoint};
+ghost use Rattle.interface.specs.ToldReading.{toldReading, toldPoint};
 use bspline::Reading;
 
 // A point of a curve: its three coordinates in the first places of `out`, or the refusal's number.

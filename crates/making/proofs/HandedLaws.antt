@@ -18,7 +18,7 @@ use Rattle.places.proofs.PlaceLaws.{length-listOf, listOf-at, length-joined, pa
 use Rattle.geometry.specs.declared.Point.{Point}
 use Rattle.geometry.specs.Doubles.{at, largest, isFinite}
 use Rattle.geometry.specs.Order.{rankOf, inserted, sortedOnto, sorted}
-use Rattle.bands.specs.Cholesky.{substituteSymmetricBand}
+use Rattle.cholesky.specs.Cholesky.{substituteSymmetricBand}
 use Rattle.knots.specs.Knots.{bezierKnots, approximationKnots}
 use Rattle.knots.proofs.ParameterLaws.{when-some}
 use Rattle.tables.specs.BasisTable.{BasisTable}

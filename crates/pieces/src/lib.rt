@@ -10,8 +10,8 @@ ghost use Rattle.bspline.specs.Spans.{NeverFalls};
 ghost use Rattle.bspline.specs.Reader.{curvePoint};
 ghost use Rattle.places.specs.Regions.{part, splice};
 ghost use Rattle.places.specs.Loops.{outcome};
-ghost use Rattle.bands.specs.Cholesky.{factorSymmetricBand, substituteSymmetricBand};
-ghost use Rattle.bands.specs.BandLu.{factorBand, substituteBand};
+ghost use Rattle.cholesky.specs.Cholesky.{factorSymmetricBand, substituteSymmetricBand};
+ghost use Rattle.lu.specs.BandLu.{factorBand, substituteBand};
 ghost use Rattle.bands.specs.Shapes.{Solvable};
 ghost use Rattle.knots.specs.Parameters.{pointParameters, sharedParameters};
 ghost use Rattle.knots.specs.Knots.{averagedKnots, approximationKnots};
@@ -149,7 +149,7 @@ pub extern "C" fn pieces_factor_symmetric_band(
     requires { ⌜ (h ≤ 25) × (n * (h + 1) ≤ length (now lower)) ⌝ }
     ensures { λ r. ⌜ outcome r (now (lower .exit)) ≡ factorSymmetricBand h n relative (now (lower .entry)) ⌝ }
 {
-    bands::cholesky::factor_symmetric_band(lower, h, n, relative)
+    cholesky::factor_symmetric_band(lower, h, n, relative)
 }
 
 #[no_mangle]
@@ -165,7 +165,7 @@ pub extern "C" fn pieces_substitute_symmetric_band(
     requires { ⌜ Solvable l0 l1 p0 p1 (h + 1) h n (now work) ⌝ }
     ensures { λ _. ⌜ now (work .exit) ≡ splice p0 p1 (substituteSymmetricBand h n (part l0 l1 (now (work .entry))) (part p0 p1 (now (work .entry)))) (now (work .entry)) ⌝ }
 {
-    bands::cholesky::substitute_symmetric_band(work, l0, l1, p0, p1, h, n);
+    cholesky::substitute_symmetric_band(work, l0, l1, p0, p1, h, n);
 }
 
 #[no_mangle]
@@ -173,7 +173,7 @@ pub extern "C" fn pieces_factor_band(band: &mut [f64], h: usize, n: usize)
     requires { ⌜ (h ≤ 25) × (n * (2 * h + 1) ≤ length (now band)) ⌝ }
     ensures { λ _. ⌜ now (band .exit) ≡ factorBand h n (now (band .entry)) ⌝ }
 {
-    bands::lu::factor_band(band, h, n);
+    lu::factor_band(band, h, n);
 }
 
 #[no_mangle]
@@ -189,5 +189,5 @@ pub extern "C" fn pieces_substitute_band(
     requires { ⌜ Solvable l0 l1 p0 p1 (2 * h + 1) h n (now work) ⌝ }
     ensures { λ _. ⌜ now (work .exit) ≡ splice p0 p1 (substituteBand h n (part l0 l1 (now (work .entry))) (part p0 p1 (now (work .entry)))) (now (work .entry)) ⌝ }
 {
-    bands::lu::substitute_band(work, l0, l1, p0, p1, h, n);
+    lu::substitute_band(work, l0, l1, p0, p1, h, n);
 }

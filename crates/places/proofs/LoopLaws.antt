@@ -1,5 +1,5 @@
 -- The laws of counting loops: by them a loop's proof goes. Assumes nothing.
-use mathlib.Core.Path.{_≡_, refl, sym, _∙_, ap, subst}
+use mathlib.Core.Path.{_≡_, refl, sym, _∙_, ap}
 use mathlib.Core.Bool.{Bool, true, false, cond}
 use Prim.Native.Nat.{ℕ, zero, suc, _+_, _-_, _<_, _≤_}
 use native.Mathlib.Nat.{zero-add, suc-add, add-zero, add-suc}
@@ -105,6 +105,11 @@ module _ {S T : Type 0} (φ : T → S) (P : T → Type 0) (f : ℕ → S → S) 
   unfolding each
   each-shift a e b c t z p h = rw (← z) (times-shift (e - a) a b t p (λ i j x u v r q. h i j x u (omega arith) r q))
 
+-- what both choices show, the choice shows: p of them
+pub cond-both : {S T : Type 0} (p : S → T) (b : Bool) (x y : S) (v : T) → p x ≡ v → p y ≡ v → p (cond b x y) ≡ v
+cond-both p true x y v h k = h
+cond-both p false x y v h k = k
+
 -- a choice seen through φ
 pub cond-shift : {S T : Type 0} (φ : T → S) (b : Bool) (x y : T) → cond b (φ x) (φ y) ≡ φ (cond b x y)
 cond-shift φ true x y = refl
@@ -116,32 +121,37 @@ unfolding andThen
 went (outcome true s) k t e = (s, refl, e)
 went (outcome false s) k t e = (s, cc, cc)
 
-then-went : {S : Type 0} (v : Outcome S) (s : S) (k : S → Outcome S) (t : S) → v ≡ outcome true s → k s ≡ outcome true t → andThen v k ≡ outcome true t
+-- a loop that may stop: up to j, and from there on
+then-same : {S : Type 0} (v : Outcome S) (f g k : S → Outcome S) → ((s : S) → f s ≡ andThen (g s) k) → andThen v f ≡ andThen (andThen v g) k
 unfolding andThen
-then-went v s k t e d = rw e d
+then-same (outcome true s) f g k h = h s
+then-same (outcome false s) f g k h = refl
 
 module _ {S : Type 0} (f : ℕ → S → Outcome S) where
-  -- a loop that went through: each turn did
-  times-went : (m r a : ℕ) (s t : S) → timesWhile (m + suc r) a f s ≡ outcome true t
-      → (u : S) × (v : S) × (timesWhile m a f s ≡ outcome true u) × (f (a + m) u ≡ outcome true v) × (timesWhile r (a + m + 1) f v ≡ outcome true t)
+  times-while-add : (m r a : ℕ) (s : S) → timesWhile (m + r) a f s ≡ andThen (timesWhile m a f s) (timesWhile r (a + m) f)
   unfolding timesWhile andThen
-  times-went zero r a s t e =
-      let w = went (f a s) (timesWhile r (suc a) f) t (rw zero-add at e) in
-      (s, w .0, refl, rw add-zero (w .1), rw (add-zero, add-one) (w .2))
-  times-went (suc m) r a s t e =
-      let w = went (f a s) (timesWhile (m + suc r) (suc a) f) t (rw suc-add at e) in
-      let g = times-went m r (suc a) (w .0) t (w .2) in
-      let z : suc a + m ≡ a + suc m = omega arith in
-      (g .0, g .1, then-went (f a s) (w .0) (timesWhile m (suc a) f) (g .0) (w .1) (g .2), subst (λ (k : ℕ). f k (g .0) ≡ outcome true (g .1)) z (g .3), subst (λ (k : ℕ). timesWhile r (k + 1) f (g .1) ≡ outcome true t) z (g .4))
+  times-while-add zero r a s = rw (zero-add, add-zero)
+  times-while-add (suc m) r a s =
+      rw (suc-add, add-suc) (then-same (f a s) (timesWhile (m + r) (suc a) f) (timesWhile m (suc a) f) (timesWhile r (suc (a + m)) f) (λ t. times-while-add m r (suc a) t ∙ rw suc-add))
 
+  pub while-split : (a j b : ℕ) (s : S) → a ≤ j → j ≤ b → eachWhile a b f s ≡ andThen (eachWhile a j f s) (eachWhile j b f)
+  unfolding eachWhile
+  while-split a j b s h k =
+      let m : b - a ≡ (j - a) + (b - j) = omega arith in
+      let n : a + (j - a) ≡ j = omega arith in
+      rw m (times-while-add (j - a) (b - j) a s ∙ rw n)
+
+  while-step : (a b : ℕ) (s : S) → a < b → eachWhile a b f s ≡ andThen (f a s) (eachWhile (a + 1) b f)
+  unfolding eachWhile timesWhile
+  while-step a b s h = let m : b - a ≡ suc (b - (a + 1)) = omega arith in rw (m, add-one)
+
+  -- a loop that went through: each turn did
   pub each-went : (i n : ℕ) (s t : S) → i < n → eachWhile 0 n f s ≡ outcome true t
       → (u : S) × (v : S) × (eachWhile 0 i f s ≡ outcome true u) × (f i u ≡ outcome true v) × (eachWhile (i + 1) n f v ≡ outcome true t)
-  unfolding eachWhile
   each-went i n s t h e =
-      let m : n - 0 ≡ i + suc (n - (i + 1)) = omega arith in
-      let z : i - 0 ≡ i = omega arith in
-      let g = times-went i (n - (i + 1)) 0 s t (rw m at e) in
-      (g .0, g .1, rw z (g .2), rw zero-add at (g .3), rw zero-add at (g .4))
+      let w = went (eachWhile 0 i f s) (eachWhile i n f) t (sym (while-split 0 i n s (omega arith) (omega arith)) ∙ e) in
+      let g = went (f i (w .0)) (eachWhile (i + 1) n f) t (sym (while-step i n (w .0) h) ∙ w .2) in
+      (w .0, g .0, w .1, g .1, g .2)
 
   module _ {T : Type 0} (p : S → T) where
     times-while-same : (m a : ℕ) (s t : S) → timesWhile m a f s ≡ outcome true t → ((k : ℕ) (u v : S) → a ≤ k → k < a + m → f k u ≡ outcome true v → p v ≡ p u) → p t ≡ p s

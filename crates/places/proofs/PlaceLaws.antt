@@ -2,9 +2,9 @@
 use mathlib.Core.Path.{_≡_, refl, sym, _∙_, ap, subst}
 use mathlib.Core.Bool.{Bool, true, false, cond, _||_, _&&_}
 use mathlib.Core.List.{List, [], _∷_, _++_, append-assoc, append-nil}
-use mathlib.Core.Logic.{⊎-elim, _⊎_, inl, inr, _≢_}
+use mathlib.Core.Logic.{⊎-elim, _⊎_, inl, inr}
 use Prim.Native.Nat.{ℕ, zero, suc, _+_, _-_, _*_, _<_, _≤_}
-use native.Mathlib.Nat.{suc-add, add-zero, add-suc, add-assoc, ne-of-lt, ne-of-gt, eq-or-lt-of-le, le-of-suc-le-suc, not-suc-le-zero, zero-add, zero-mul, suc-mul, mul-le-mul-right}
+use native.Mathlib.Nat.{add-zero, add-suc, add-assoc, ne-of-lt, ne-of-gt, eq-or-lt-of-le, le-of-suc-le-suc, not-suc-le-zero, zero-add, zero-mul, suc-mul, mul-le-mul-right}
 use native.Mathlib.Numerals.{add-one}
 use lib.Dec.{leb, eqb}
 use borrow.Author.Tests.{leb-true, leb-false, eq-eqb, ne-eqb}

@@ -4,12 +4,12 @@ use mathlib.Core.List.{List, [], _∷_, _++_, append-assoc}
 use Prim.Native.Nat.{ℕ, zero, suc, _+_, _-_, _≤_, _<_}
 use native.Mathlib.Omega.{arith}
 use native.Mathlib.Nat.{zero-add, suc-add}
-use mathlib.Core.Logic.{_⊎_, inl, inr, ⊎-elim}
+use mathlib.Core.Logic.{_⊎_, ⊎-elim}
 use Rattle.places.specs.Loops.{times, each, down}
 use Rattle.places.proofs.LoopLaws.{each-step, each-done, down-step, down-done}
 use Rattle.places.specs.Regions.{part, splice}
-use lib.ListN.{length, getD, take, drop, set, length-append, length-take, length-drop, length-set, take-append-drop, List·getD-append}
-use lib.Seq.{length-take-le, take-at, drop-at, take-append-le, drop-append-le, drop-append-add, getD-append-add, set-append-left, drop-drop, getD-take, getD-drop, take-nil, take-take}
+use lib.ListN.{length, getD, take, drop, set, length-append, length-drop, take-append-drop, List·getD-append}
+use lib.Seq.{length-take-le, take-at, drop-at, take-append-le, drop-append-le, drop-append-add, set-append-left, drop-drop, getD-take, getD-drop, take-nil, take-take}
 
 -- a list is what is before a region, the region, and what is after it
 pub parted {ℓ} : {A : Type ℓ} (a e : ℕ) (l : List A) → l ≡ take a l ++ (part a e l ++ drop (e - a) (drop a l))

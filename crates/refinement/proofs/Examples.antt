@@ -1,8 +1,7 @@
 -- Worked examples of a round, computed from the definitions.
 use mathlib.Core.Path.{_≡_, refl}
 use mathlib.Core.List.{List, [], _∷_}
-use mathlib.Core.Option.{Option, none, some}
-use Prim.Native.Nat.{ℕ}
+use mathlib.Core.Option.{none, some}
 use lib.Ieee.{Float, binary64, ofBits, add, mul, lt, le, eq, toBits, size, span, climb}
 use Rattle.places.specs.Places.{listOf, gathered, countBelow}
 use Rattle.geometry.specs.Doubles.{nought, one, half, larger, largestFrom, largest}

@@ -15,7 +15,7 @@ use lib.Seq.{getD-at, take-at}
 use lib.Ieee.{Float}
 use Rattle.places.specs.Places.{gathered}
 use Rattle.places.proofs.GatheredLaws.{front, gathered-yes, gathered-no, length-gathered, count-most, front-next, front-after, length-front-is}
-use Rattle.refinement.specs.Refinement.{closes, spanEnds, startOf, loneMisses, loneBefore, splits, middleKnot, thresholdOf, knotsAt, newKnots}
+use Rattle.refinement.specs.Refinement.{closes, spanEnds, startOf, loneMisses, loneBefore}
 use Rattle.refinement.specs.Round.{Rising, Within}
 
 pub closes-last : (firsts : List ℕ) (k : ℕ) → length firsts ≤ k + 1 → true ≡ closes firsts k

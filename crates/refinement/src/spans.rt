@@ -1,10 +1,10 @@
 // The knot spans that hold parameters, by the parameters' first poles: where each ends, and how far its worst parameter is off.
 ghost use mathlib.Core.Path.{_≡_};
 ghost use mathlib.Core.List.{_++_};
-ghost use Prim.Native.Nat.{ℕ, _≤_, _<_};
+ghost use Prim.Native.Nat.{_≤_, _<_};
 ghost use lib.ListN.{length, drop};
 ghost use Rattle.geometry.specs.Root.{rootsOf};
-ghost use Rattle.refinement.specs.Refinement.{closes, spanEnds, startOf, endOf, spanWorsts};
+ghost use Rattle.refinement.specs.Refinement.{closes, spanEnds, startOf, spanWorsts};
 ghost use Rattle.refinement.specs.Round.{Rising, Within};
 
 // Whether parameter k is the last of its span.

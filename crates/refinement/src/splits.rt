@@ -1,6 +1,6 @@
 // Which spans split, and the knots that split them.
 ghost use mathlib.Core.Path.{_≡_};
-ghost use Prim.Native.Nat.{ℕ, _+_, _-_, _≤_, _<_};
+ghost use Prim.Native.Nat.{_+_, _-_, _≤_, _<_};
 ghost use lib.ListN.{length};
 ghost use Rattle.places.specs.Places.{countBelow};
 ghost use Rattle.places.specs.Regions.{splice};

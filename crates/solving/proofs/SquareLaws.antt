@@ -19,8 +19,8 @@ use Rattle.places.proofs.RegionLaws.{Apart, length-each, length-part, length-sp
 use Rattle.geometry.specs.declared.Point.{Point}
 use Rattle.geometry.specs.Doubles.{nought, at, isFinite}
 use Rattle.geometry.proofs.PointLaws.{length-put-point}
-use Rattle.bands.specs.Cholesky.{forwardRow, backRow, factorSymmetricBand, substituteSymmetricBand}
-use Rattle.bands.proofs.Lengths.{length-forward-row, length-back-row}
+use Rattle.cholesky.specs.Cholesky.{forwardRow, backRow, factorSymmetricBand, substituteSymmetricBand}
+use Rattle.cholesky.proofs.Lengths.{length-forward-row, length-back-row}
 use Rattle.tables.specs.declared.Table.{Table}
 use Rattle.tables.specs.declared.Data.{Data}
 use Rattle.tables.specs.BasisTable.{BasisTable, parameterCount, first}

@@ -11,17 +11,17 @@ use lib.Ieee.{Float, eq}
 use Rattle.places.specs.Loops.{each}
 use Rattle.places.specs.Places.{laid, joined}
 use Rattle.places.specs.Regions.{part, splice}
-use Rattle.places.proofs.LoopLaws.{each-cong}
+use Rattle.places.proofs.LoopLaws.{each-cong, cond-both}
 use Rattle.places.proofs.PlaceLaws.{laid-region, listOf-replicate, joined-more, length-joined, row-in, joined-same}
 use Rattle.places.proofs.RegionLaws.{Apart, length-each, part-splice, splice-then, splice-join, splice-on, length-down}
 use Rattle.geometry.specs.declared.Point.{Point}
 use Rattle.geometry.specs.Doubles.{_⊗_, _⊘_, one, nought, at}
 use Rattle.geometry.specs.Points.{putPoint, pointsOf}
 use Rattle.geometry.proofs.PointLaws.{length-put-point}
-use Rattle.bands.specs.Bands.{putEntry}
-use Rattle.bands.specs.BandLu.{bandEntry, reach, lessPivot, lessMultiple, eliminateRow, eliminate, factorBand, forwardStep, backBandRow, substituteBand}
+use Rattle.bands.specs.Bands.{putEntry, reach}
+use Rattle.lu.specs.BandLu.{bandEntry, lessPivot, lessMultiple, eliminateRow, eliminate, factorBand, forwardStep, backBandRow, substituteBand}
 use Rattle.bands.specs.Shapes.{Solvable}
-use Rattle.bands.proofs.Lengths.{length-cond, length-forward-step, length-back-band-row}
+use Rattle.lu.proofs.Lengths.{length-forward-step, length-back-band-row}
 use Rattle.tables.specs.declared.Table.{Table}
 use Rattle.tables.specs.declared.Data.{Data}
 use Rattle.tables.specs.BasisTable.{BasisTable, first, value}
@@ -35,7 +35,7 @@ use Rattle.tables.proofs.SpliceLaws.{length-points, points-same}
 -- ---- lengths
 pub length-put-within : (h j column : ℕ) (x : Float) (l : List Float) → length (putWithin h j column x l) ≡ length l
 unfolding putWithin
-length-put-within h j column x l = length-cond (leb j (column + h) && leb column (j + h)) _ l (length l) (length-set l _ x) refl
+length-put-within h j column x l = cond-both length (leb j (column + h) && leb column (j + h)) _ l (length l) (length-set l _ x) refl
 
 pub length-put-column : (h j f : ℕ) (values : List Float) (a : ℕ) (l : List Float) → length (putColumn h j f values a l) ≡ length l
 unfolding putColumn
@@ -48,7 +48,7 @@ length-put-value t j a l = length-put-within (t .degree - 1) j (first t j + a) (
 length-less-multiple : (h n k i : ℕ) (factor : Float) (l : List Float) → length (lessMultiple h n k i factor l) ≡ length l
 unfolding lessMultiple lessPivot
 length-less-multiple h n k i factor l =
-    length-cond (eq factor nought) _ _ (length l) (length-set l _ factor)
+    cond-both length (eq factor nought) _ _ (length l) (length-set l _ factor)
     (length-each (lessPivot h k i factor) (λ j x. length-set x _ _) (k + 1) (reach h n k) (putEntry (2 * h + 1) h i k factor l) ∙ length-set l _ factor)
 
 pub length-factor-band : (h n : ℕ) (l : List Float) → length (factorBand h n l) ≡ length l

@@ -12,7 +12,7 @@ use Rattle.geometry.specs.declared.Point.{Point}
 use Rattle.geometry.specs.Doubles.{nought}
 use Rattle.geometry.specs.Points.{putPoint, pointsOf}
 use Rattle.bands.specs.Bands.{putEntry}
-use Rattle.bands.specs.BandLu.{factorBand, substituteBand}
+use Rattle.lu.specs.BandLu.{factorBand, substituteBand}
 use Rattle.tables.specs.BasisTable.{BasisTable, parameterCount, first, value}
 
 -- parameter j's value a, in row j and the column of the pole that it belongs to; a value outside the band is dropped, as the Rust's release build does

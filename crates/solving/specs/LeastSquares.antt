@@ -12,7 +12,7 @@ use Rattle.geometry.specs.declared.Point.{Point}
 use Rattle.geometry.specs.Doubles.{_⊕_, _⊗_, nought, at, isFinite}
 use Rattle.geometry.specs.Points.{pointAt, putPoint, plusScaled}
 use Rattle.bands.specs.Bands.{entry, putEntry}
-use Rattle.bands.specs.Cholesky.{factorSymmetricBand, substituteSymmetricBand}
+use Rattle.cholesky.specs.Cholesky.{factorSymmetricBand, substituteSymmetricBand}
 use Rattle.tables.specs.BasisTable.{BasisTable, parameterCount, first, value}
 
 -- the product of parameter k's values a and c, onto the entry of the poles that they belong to

@@ -11,7 +11,7 @@ use Rattle.geometry.specs.declared.Point.{Point}
 use Rattle.geometry.specs.Doubles.{at}
 use Rattle.geometry.specs.Points.{putPoint, pointsOf}
 use Rattle.bands.specs.Bands.{putEntry}
-use Rattle.bands.specs.BandLu.{substituteBand}
+use Rattle.lu.specs.BandLu.{substituteBand}
 use Rattle.tables.specs.declared.Table.{Table}
 use Rattle.tables.specs.declared.Data.{Data}
 use Rattle.solving.specs.Interpolation.{interpolation}

@@ -108,7 +108,7 @@ pub fn interpolated_line(
     ensures { λ _. ⌜ now (work .exit) ≡ splice from to (lineThrough h n (part band end (now (work .entry))) (dataPoint given (now (points .entry)) (now (work .entry)) r)) (now (work .entry)) ⌝ }
 {
     put_line(work, points, given, r, n, from, to);
-    bands::lu::substitute_band(work, band, end, from, to, h, n);
+    lu::substitute_band(work, band, end, from, to, h, n);
     let first = tables::datum::data_point(points, work, given, r, 0);
     geometry::put_point(&mut work[from..to], 0, first);
     let last = tables::datum::data_point(points, work, given, r, n - 1);
@@ -133,7 +133,7 @@ pub fn interpolation(
     let h = table.degree - 1;
     let end = band + n * (2 * h + 1);
     interpolation_matrix(work, index, table, band);
-    bands::lu::factor_band(&mut work[band..end], h, n);
+    lu::factor_band(&mut work[band..end], h, n);
     for r in 0..lines {
         let from = poles + r * (3 * n);
         let to = from + 3 * n;

@@ -5,11 +5,10 @@ use mathlib.Core.List.{List}
 use mathlib.Core.Option.{Option, none, some}
 use Prim.Native.Nat.{ℕ, _+_, _-_, _*_, _≤_, _<_}
 use lib.Dec.{eqb}
-use lib.ListN.{length, take, drop, getD}
+use lib.ListN.{length, take, drop}
 use lib.Ieee.{Float}
 use Rattle.places.specs.Regions.{part}
 use Rattle.geometry.specs.declared.Point.{Point}
-use Rattle.geometry.specs.Points.{pointAt}
 use Rattle.tables.specs.declared.Table.{Table}
 use Rattle.tables.specs.declared.Data.{Data}
 use Rattle.tables.specs.BasisTable.{BasisTable, first}

@@ -2,7 +2,7 @@
 ghost use mathlib.Core.Path.{_≡_};
 ghost use mathlib.Core.List.{_++_};
 ghost use Prim.Native.Nat.{_+_, _-_, _*_, _≤_};
-ghost use lib.ListN.{length, take, drop};
+ghost use lib.ListN.{length, drop};
 ghost use Rattle.places.specs.Regions.{part, splice};
 ghost use Rattle.tables.specs.BasisTable.{basisTable};
 ghost use Rattle.tables.specs.Layout.{FillsTable};

@@ -1,5 +1,4 @@
 -- What the two calls ensure. Assumes nothing.
-use mathlib.Core.Path.{_∙_, ap}
 use borrow.Author.Needs.{needs}
 use Rattle.pieces.proofs.pieces_curve_point.Statement.{statement}
 use Rattle.pieces.proofs.pieces_curve_point.Tie as tie

@@ -5,7 +5,7 @@ use mathlib.Core.Logic.{_⊎_, inl, inr}
 use Prim.Native.Nat.{ℕ, _+_, _-_, _≤_, _<_}
 use lib.ListN.{length, getD, length-set}
 use lib.Ieee.{Float, nan}
-use Rattle.places.specs.Places.{laid, listOf}
+use Rattle.places.specs.Places.{laid}
 use Rattle.places.specs.Regions.{part, splice}
 use Rattle.places.proofs.PlaceLaws.{laid-next, laid-below, laid-above, laid-region, listOf-same, listOf-all}
 use Rattle.places.proofs.RegionLaws.{length-part, getD-part}

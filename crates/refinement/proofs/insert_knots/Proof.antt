@@ -8,7 +8,7 @@ use Rattle.places.specs.Regions.{part}
 use Rattle.places.proofs.RegionLaws.{length-part}
 use Rattle.places.proofs.GatheredLaws.{count-most}
 use Rattle.refinement.specs.declared.Round.the-variants.{Refined}
-use Rattle.refinement.specs.Refinement.{splits, withKnots}
+use Rattle.refinement.specs.Refinement.{splits}
 use Rattle.refinement.specs.Round.{knotsIn}
 use Rattle.refinement.proofs.SplitLaws.{length-knots}
 use Rattle.refinement.proofs.RoundLaws.{with-none, with-full, with-some, insert-length, insert-done}

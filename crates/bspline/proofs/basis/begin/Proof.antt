@@ -1,7 +1,7 @@
 -- The one function of degree 0 is 1, and `raise` gives the two of degree 1. Assumes nothing.
 use native.Mathlib.Omega.{arith}
-use Prim.Native.Nat.{_+_, _*_, _/_, _<_}
-use mathlib.Core.Path.{_≡_, ap, _∙_}
+use Prim.Native.Nat.{_+_, _<_}
+use mathlib.Core.Path.{ap, _∙_}
 use denote.Ref.{now}
 use lib.ListN.{length, set, length-set}
 use Rattle.places.proofs.PlaceLaws.{length-laid}

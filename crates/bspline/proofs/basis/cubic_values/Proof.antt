@@ -1,8 +1,7 @@
 -- Each value is the definition's for degree 3, which is worked out; each store lays one more. Assumes nothing.
 use native.Mathlib.Omega.{arith}
-use Prim.Native.Nat.{_+_, _-_, _<_}
-use mathlib.Core.Path.{_≡_, refl}
-use lib.ListN.{length, set, length-set}
+use Prim.Native.Nat.{_-_}
+use lib.ListN.{length-set}
 use Rattle.bspline.proofs.Recurrence.{laid-cubic}
 use Rattle.bspline.proofs.basis.cubic_values.Statement.{statement}
 use Rattle.bspline.proofs.basis.cubic_values.Tie as tie

@@ -1,8 +1,7 @@
 -- The invariant: after i pairs the functions of degree d + 2 i are laid, d being the degree that `begin` left. Assumes nothing.
 use native.Mathlib.Omega.{arith}
-use Prim.Native.Nat.{ℕ, _+_, _-_, _*_, _/_, _≤_, _<_}
-use mathlib.Core.Path.{_≡_, refl, sym, ap, _∙_}
-use denote.Ref.{now}
+use Prim.Native.Nat.{ℕ, _+_, _-_, _*_, _≤_, _<_}
+use mathlib.Core.Path.{_≡_, ap, _∙_}
 use lib.ListN.{length}
 use Rattle.places.specs.Places.{laid}
 use Rattle.geometry.specs.Doubles.{at}

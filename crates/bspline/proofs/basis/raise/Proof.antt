@@ -1,13 +1,11 @@
-use borrow.Author.Needs.{needs}
 use native.Mathlib.Omega.{arith}
-use native.Mathlib.Nat.{le-refl}
-use Prim.Native.Nat.{ℕ, zero, suc, _+_, _-_, _*_, _≤_, _<_}
-use mathlib.Core.Path.{_≡_, refl, sym, ap, _∙_, subst}
-use mathlib.Core.List.{List, _∷_, [], _++_}
+use Prim.Native.Nat.{ℕ, _+_, _-_, _≤_, _<_}
+use mathlib.Core.Path.{_≡_, refl, sym, ap, _∙_}
+use mathlib.Core.List.{List}
 use denote.Ref.{now}
-use lib.ListN.{length, getD, set, drop, take, length-set}
+use lib.ListN.{length, length-set}
 use lib.Ieee.{Float, nan}
-use Rattle.places.specs.Places.{laid, listOf, joined}
+use Rattle.places.specs.Places.{laid}
 use Rattle.geometry.specs.Doubles.{at}
 use lib.Ieee.{sub, binary64}
 use Rattle.places.proofs.PlaceLaws.{laid-none, laid-next, laid-above, laid-below}

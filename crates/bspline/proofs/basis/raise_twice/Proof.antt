@@ -1,7 +1,7 @@
 -- The invariant: the first r functions of degree j + 1 are laid; `lower` and `upper` are the first terms of function r of degree j and of degree j + 1. Assumes
 -- nothing.
 use native.Mathlib.Omega.{arith}
-use Prim.Native.Nat.{ℕ, _+_, _-_, _*_, _≤_, _<_}
+use Prim.Native.Nat.{ℕ, _+_, _-_, _≤_, _<_}
 use mathlib.Core.Path.{_≡_, refl, sym, ap, _∙_}
 use mathlib.Core.List.{List}
 use denote.Ref.{now}

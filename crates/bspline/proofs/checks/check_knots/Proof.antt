@@ -1,5 +1,4 @@
 -- The definition, test by test. Assumes nothing.
-use mathlib.Core.Path.{_≡_, sym, _∙_}
 use borrow.Author.Tests.{eq-eqb, ne-eqb}
 use Rattle.bspline.specs.Refusals.{stop-if, _next_}
 use Rattle.bspline.specs.Reader.{knotsVerdict}

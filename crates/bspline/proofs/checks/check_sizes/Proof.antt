@@ -1,5 +1,4 @@
 -- The definition, test by test. Assumes nothing.
-use mathlib.Core.Path.{_≡_, sym}
 use borrow.Author.Tests.{lt-ltb, le-ltb, eq-eqb, ne-eqb}
 use lib.Dec.{ltb}
 use Rattle.places.proofs.PlaceLaws.{or-true}

@@ -1,15 +1,14 @@
 -- The invariant: none of the first k inner multiplicities is above the degree. Assumes nothing.
-use mathlib.Core.Path.{_≡_, sym, ap}
-use mathlib.Core.Bool.{false, not}
-use Prim.Native.Nat.{ℕ, _+_, _-_, _≤_}
+use mathlib.Core.Path.{_≡_, sym}
+use mathlib.Core.Bool.{false}
+use Prim.Native.Nat.{_+_, _-_, _≤_}
 use lib.ListN.{length}
-use lib.Dec.{ltb, eqb}
-use lib.Ieee.{le}
+use lib.Dec.{ltb}
 use Rattle.places.specs.Places.{someBelow}
 use Rattle.places.proofs.PlaceLaws.{some-none, some-here, some-next}
-use borrow.Author.Tests.{lt-ltb, le-ltb, eq-eqb, ne-eqb, not-true, not-false}
-use Rattle.geometry.specs.Doubles.{at, isFinite}
-use Rattle.bspline.specs.Reader.{multiplicity, notIncreasing, innerTooLarge, noMultiplicity, notFinite}
+use borrow.Author.Tests.{lt-ltb, le-ltb}
+use Rattle.geometry.specs.Doubles.{at}
+use Rattle.bspline.specs.Reader.{multiplicity, innerTooLarge}
 use native.Mathlib.Omega.{arith}
 use Rattle.bspline.proofs.checks.inner_too_large.Statement.{statement}
 use Rattle.bspline.proofs.checks.inner_too_large.Tie as tie

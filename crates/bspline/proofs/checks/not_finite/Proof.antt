@@ -1,15 +1,12 @@
 -- The invariant: each of the first k knots is finite. Assumes nothing.
-use mathlib.Core.Path.{_≡_, sym, ap}
+use mathlib.Core.Path.{_≡_, sym}
 use mathlib.Core.Bool.{false, not}
-use Prim.Native.Nat.{ℕ, _+_, _-_, _≤_}
+use Prim.Native.Nat.{_-_, _≤_}
 use lib.ListN.{length}
-use lib.Dec.{ltb, eqb}
-use lib.Ieee.{le}
 use Rattle.places.specs.Places.{someBelow}
 use Rattle.places.proofs.PlaceLaws.{some-none, some-here, some-next}
-use borrow.Author.Tests.{lt-ltb, le-ltb, eq-eqb, ne-eqb, not-true, not-false}
 use Rattle.geometry.specs.Doubles.{at, isFinite}
-use Rattle.bspline.specs.Reader.{multiplicity, notIncreasing, innerTooLarge, noMultiplicity, notFinite}
+use Rattle.bspline.specs.Reader.{notFinite}
 use native.Mathlib.Omega.{arith}
 use borrow.Author.Needs.{needs}
 use Rattle.bspline.proofs.checks.not_finite.Statement.{statement}

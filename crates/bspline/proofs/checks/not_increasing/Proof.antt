@@ -1,15 +1,13 @@
 -- The invariant: none of the first k knots after the first is at or below its predecessor. Assumes nothing.
-use mathlib.Core.Path.{_≡_, sym, ap}
-use mathlib.Core.Bool.{false, not}
-use Prim.Native.Nat.{ℕ, _+_, _-_, _≤_}
+use mathlib.Core.Path.{_≡_, sym}
+use mathlib.Core.Bool.{false}
+use Prim.Native.Nat.{_+_, _-_, _≤_}
 use lib.ListN.{length}
-use lib.Dec.{ltb, eqb}
 use lib.Ieee.{le}
 use Rattle.places.specs.Places.{someBelow}
 use Rattle.places.proofs.PlaceLaws.{some-none, some-here, some-next}
-use borrow.Author.Tests.{lt-ltb, le-ltb, eq-eqb, ne-eqb, not-true, not-false}
-use Rattle.geometry.specs.Doubles.{at, isFinite}
-use Rattle.bspline.specs.Reader.{multiplicity, notIncreasing, innerTooLarge, noMultiplicity, notFinite}
+use Rattle.geometry.specs.Doubles.{at}
+use Rattle.bspline.specs.Reader.{notIncreasing}
 use native.Mathlib.Omega.{arith}
 use Rattle.bspline.proofs.checks.not_increasing.Statement.{statement}
 use Rattle.bspline.proofs.checks.not_increasing.Tie as tie

@@ -1,5 +1,4 @@
 -- The definition, test by test. Assumes nothing.
-use mathlib.Core.Path.{_≡_, sym, _∙_, ap}
 use borrow.Author.Tests.{lt-ltb, le-ltb}
 use Rattle.bspline.specs.Reader.{notReadable}
 use Rattle.geometry.proofs.DoubleLaws.{ne-is-nan}

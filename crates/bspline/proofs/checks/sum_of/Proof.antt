@@ -1,6 +1,6 @@
 -- The invariant: the sum so far and the sum of what is left make the whole sum; no multiplicity reaches 2^32. Assumes nothing.
-use mathlib.Core.Path.{_≡_, refl, sym, _∙_}
-use Prim.Native.Nat.{ℕ, _+_, _-_, _*_, _≤_}
+use mathlib.Core.Path.{_≡_}
+use Prim.Native.Nat.{_+_, _-_, _*_, _≤_}
 use lib.ListN.{length, drop}
 use Rattle.bspline.specs.Reader.{sumOf}
 use Rattle.bspline.proofs.ReaderLaws.{sum-step, sum-end}

@@ -1,8 +1,6 @@
 -- The span that halving finds has its knots and poles on either side, and the definition is the reading on it. Assumes nothing.
-use mathlib.Core.Path.{_≡_, refl, sym, ap, _∙_}
-use Prim.Native.Nat.{_+_, _-_}
-use lib.ListN.{length}
-use Rattle.bspline.specs.Spans.{spanOf}
+use mathlib.Core.Path.{_∙_}
+use Prim.Native.Nat.{_-_}
 use Rattle.bspline.specs.Reader.{curvePoint}
 use Rattle.bspline.proofs.SpanLaws.{span-of-in}
 use native.Mathlib.Omega.{arith}

@@ -1,8 +1,7 @@
 -- The invariant: the runs of the first k knots stand in the first places, and as many places are left as the multiplicities that follow need. Assumes nothing.
-use mathlib.Core.Path.{_≡_, refl, sym, ap, _∙_}
-use Prim.Native.Nat.{_+_, _-_, _≤_}
+use mathlib.Core.Path.{_≡_, refl, _∙_}
+use Prim.Native.Nat.{_-_, _≤_}
 use lib.ListN.{length}
-use Rattle.bspline.specs.Reader.{sumOf}
 use Rattle.bspline.proofs.ReaderLaws.{FlatTo, flat-start, flat-next, flat-end, sum-step}
 use native.Mathlib.Omega.{arith}
 use borrow.Author.Needs.{needs}

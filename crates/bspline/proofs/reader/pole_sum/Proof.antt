@@ -1,8 +1,8 @@
 -- The invariant: the sum so far is the weighted sum of the poles passed. Assumes nothing.
-use mathlib.Core.Path.{_≡_, refl, sym, ap, _∙_}
+use mathlib.Core.Path.{_≡_, refl, sym, _∙_}
 use Prim.Native.Nat.{_+_, _-_, _≤_}
 use Rattle.geometry.specs.Doubles.{at, sumBelow}
-use Rattle.geometry.specs.Points.{weighted, pointAt, plusScaled}
+use Rattle.geometry.specs.Points.{weighted, pointAt}
 use Rattle.geometry.proofs.PointLaws.{weighted-more}
 use native.Mathlib.Omega.{arith}
 use borrow.Author.Needs.{needs}

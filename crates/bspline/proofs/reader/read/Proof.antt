@@ -1,5 +1,5 @@
 -- The checks answer as their definition, in document 01's order, and what passes the first is sized as the others need. Assumes nothing.
-use mathlib.Core.Path.{_≡_, sym, _∙_}
+use mathlib.Core.Path.{sym, _∙_}
 use Rattle.bspline.specs.Reader.{readerVerdict}
 use Rattle.bspline.proofs.CheckLaws.{sizes-pass, stopped, passed, reads}
 use borrow.Author.Needs.{needs}

@@ -1,11 +1,10 @@
 -- The first places of the buffer are the flat knots. Assumes nothing.
-use mathlib.Core.Path.{_≡_, refl, sym, ap, _∙_}
+use mathlib.Core.Path.{sym, ap, _∙_}
 use Prim.Native.Nat.{_+_, _/_}
-use lib.ListN.{length, take, drop, replicate}
+use lib.ListN.{length, take}
 use native.Mathlib.Omega.{arith}
 use lib.Seq.{take-at, length-take-le}
-use Rattle.geometry.specs.Doubles.{nought}
-use Rattle.bspline.specs.Reader.{flatKnots, sumOf}
+use Rattle.bspline.specs.Reader.{flatKnots}
 use Rattle.bspline.proofs.CheckLaws.{flat-count}
 use borrow.Author.Needs.{needs}
 use Rattle.bspline.proofs.reader.read_flat.Statement.{statement}

@@ -1,7 +1,7 @@
 -- The last check answers as its definition; where it passes, the flat knots never fall and there are poles enough to read. Assumes nothing.
 use mathlib.Core.Path.{_≡_, sym, ap, _∙_}
 use mathlib.Core.Bool.{false}
-use Prim.Native.Nat.{_+_, _-_, _*_, _/_, _≤_}
+use Prim.Native.Nat.{_-_, _/_}
 use lib.ListN.{length}
 use Rattle.bspline.specs.Refusals.{stop-if}
 use Rattle.bspline.specs.Reader.{readingOf, notReadable}

@@ -1,5 +1,5 @@
 -- The checks answer as their definition, and what passes them has the flat knots that the reading needs. Assumes nothing.
-use mathlib.Core.Path.{_≡_, sym, _∙_}
+use mathlib.Core.Path.{sym, _∙_}
 use Rattle.bspline.proofs.CheckLaws.{knots-pass, stopped, passed}
 use borrow.Author.Needs.{needs}
 use Rattle.bspline.proofs.reader.read_sized.Statement.{statement}

@@ -1,5 +1,5 @@
 -- The knots around the span are a window on the flat knots, so the basis functions worked out behind it are those of the span. Assumes nothing.
-use mathlib.Core.Path.{_≡_, refl, sym, ap, _∙_}
+use mathlib.Core.Path.{_≡_, refl, _∙_}
 use Prim.Native.Nat.{_+_, _-_, _*_}
 use lib.ListN.{length}
 use Rattle.geometry.proofs.PointLaws.{weighted-same}

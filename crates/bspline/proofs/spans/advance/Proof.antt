@@ -1,8 +1,6 @@
-use borrow.Author.Needs.{needs}
 use native.Mathlib.Omega.{arith}
-use Prim.Native.Nat.{ℕ, zero, suc, _+_, _-_, _*_, _/_, _≤_, _<_}
-use mathlib.Core.Path.{_≡_, refl, sym, ap, _∙_, subst}
-use lib.ListN.{length, getD, set, length-set}
+use Prim.Native.Nat.{_-_, _≤_}
+use mathlib.Core.Path.{_≡_, refl, sym, _∙_}
 use Rattle.bspline.proofs.SpanLaws.{spanFrom-on, spanFrom-last, spanFrom-here}
 use Rattle.bspline.specs.Spans.{spanFrom}
 use Rattle.bspline.proofs.spans.advance.Statement.{statement}

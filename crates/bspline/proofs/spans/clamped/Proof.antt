@@ -1,10 +1,8 @@
-use borrow.Author.Needs.{needs}
-use native.Mathlib.Omega.{arith}
-use Prim.Native.Nat.{ℕ, zero, suc, _+_, _-_, _*_, _/_, _≤_, _<_}
-use mathlib.Core.Path.{_≡_, refl, sym, ap, _∙_, subst}
+use Prim.Native.Nat.{_-_}
+use mathlib.Core.Path.{_≡_}
 use mathlib.Core.Logic.{⊎-elim}
-use mathlib.Core.Bool.{Bool, cond}
-use lib.Ieee.{Float, lt}
+use mathlib.Core.Bool.{cond}
+use lib.Ieee.{lt}
 use Rattle.bspline.specs.Spans.{clamp}
 use Rattle.bspline.proofs.spans.clamped.Statement.{statement}
 use Rattle.bspline.proofs.spans.clamped.Tie as tie

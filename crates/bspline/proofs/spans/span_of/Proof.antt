@@ -1,6 +1,6 @@
 -- Halving finds the last span that begins at or below u, and stepping back from it the last of those that has a width: on knots that never fall
 -- the spans that begin at or below u stand first, so the two searches are one. Assumes nothing.
-use mathlib.Core.Path.{_≡_, ap, _∙_}
+use mathlib.Core.Path.{ap, _∙_}
 use Prim.Native.Nat.{ℕ, _-_}
 use lib.ListN.{length}
 use Rattle.bspline.proofs.SpanLaws.{begins-down, lastWith-in, lastWith-two}

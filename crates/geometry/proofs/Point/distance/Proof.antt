@@ -1,5 +1,5 @@
 -- The definition, with what the two functions ensure. Assumes nothing.
-use mathlib.Core.Path.{_≡_, _∙_, ap}
+use mathlib.Core.Path.{_∙_, ap}
 use Rattle.geometry.specs.Points.{distance}
 use Rattle.geometry.specs.Root.{sqrtOf}
 use borrow.Author.Needs.{needs}

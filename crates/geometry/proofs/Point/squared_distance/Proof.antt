@@ -1,5 +1,5 @@
 -- The definition. Assumes nothing.
-use mathlib.Core.Path.{_≡_, refl}
+use mathlib.Core.Path.{refl}
 use Rattle.geometry.specs.Points.{squaredDistance}
 use Rattle.geometry.proofs.Point.squared_distance.Statement.{statement}
 use Rattle.geometry.proofs.Point.squared_distance.Tie as tie

@@ -1,10 +1,7 @@
 -- The definition, by the tests; a NaN is told by differing from itself, and has the rank of its one pattern. Assumes nothing.
-use mathlib.Core.Path.{_≡_, refl, sym, _∙_, ap, subst}
-use mathlib.Core.Bool.{Bool, true, false, cond, not, _&&_, _||_}
-use mathlib.Core.Logic.{⊎-elim}
-use Prim.Native.Nat.{ℕ, zero, suc, _+_, _-_, _*_, _≤_, _<_, _^_}
+use Prim.Native.Nat.{_-_}
 use native.Mathlib.Omega.{arith}
-use lib.Ieee.{Float, nan, binary64}
+use lib.Ieee.{binary64}
 use lib.Ieee.Bits.{toBits-lt}
 use denote.Floats.{passes}
 use borrow.Author.Needs.{needs}

@@ -1,15 +1,11 @@
 -- The invariant: what `sinkFrom` makes of the present list from place i down is what it makes of the first list from place k down. Assumes nothing.
-use mathlib.Core.Path.{_≡_, refl, sym, _∙_, ap, subst}
-use mathlib.Core.Bool.{Bool, true, false, cond, not, _&&_, _||_}
-use mathlib.Core.List.{List, [], _∷_, _++_}
-use mathlib.Core.Logic.{⊎-elim}
-use Prim.Native.Nat.{ℕ, zero, suc, _+_, _-_, _*_, _≤_, _<_, _^_}
+use mathlib.Core.Path.{_≡_, refl, sym, _∙_}
+use Prim.Native.Nat.{_-_, _≤_, _<_}
 use native.Mathlib.Omega.{arith}
-use native.Mathlib.Numerals.{add-one}
-use lib.ListN.{length, getD, set, take, drop, length-set}
-use lib.Ieee.{Float, nan, binary64}
-use borrow.Author.Needs.{needs, scaled-fits}
-use Rattle.geometry.specs.Order.{rankOf, inserted}
+use lib.ListN.{length, getD, length-set}
+use lib.Ieee.{nan}
+use borrow.Author.Needs.{needs}
+use Rattle.geometry.specs.Order.{rankOf}
 use Rattle.geometry.proofs.SortLaws.{sinkFrom, sink-stop, sink-on, sink-none, sink-all}
 use Rattle.geometry.proofs.order.sink.Statement.{statement}
 use Rattle.geometry.proofs.order.sink.Tie as tie

@@ -1,15 +1,11 @@
 -- The invariant: the first k places are sorted, and putting the others into them one by one gives the sorted list. Assumes nothing.
-use mathlib.Core.Path.{_≡_, refl, sym, _∙_, ap, subst}
-use mathlib.Core.Bool.{Bool, true, false, cond, not, _&&_, _||_}
-use mathlib.Core.List.{List, [], _∷_, _++_}
-use mathlib.Core.Logic.{⊎-elim}
-use Prim.Native.Nat.{ℕ, zero, suc, _+_, _-_, _*_, _≤_, _<_, _^_}
+use mathlib.Core.Path.{_≡_, refl, sym, _∙_}
+use mathlib.Core.List.{[]}
+use Prim.Native.Nat.{_-_, _≤_}
 use native.Mathlib.Omega.{arith}
-use native.Mathlib.Numerals.{add-one}
-use lib.ListN.{length, getD, set, take, drop, length-set}
-use lib.Ieee.{Float, nan, binary64}
-use borrow.Author.Needs.{needs, scaled-fits}
-use Rattle.geometry.specs.Order.{rankOf, inserted, sortedOnto, sorted, Ascending}
+use lib.ListN.{length, take, drop}
+use borrow.Author.Needs.{needs}
+use Rattle.geometry.specs.Order.{sortedOnto, sorted, Ascending}
 use Rattle.geometry.proofs.SortLaws.{ascending-inserted, sort-turn, onto-next, onto-done}
 use Rattle.geometry.proofs.order.sort.Statement.{statement}
 use Rattle.geometry.proofs.order.sort.Tie as tie

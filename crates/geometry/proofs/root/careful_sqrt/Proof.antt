@@ -1,6 +1,5 @@
 -- `root::careful_sqrt` meets its contract. Assumes nothing.
-use borrow.Author.Needs.{needs}
-use mathlib.Core.Path.{_≡_, refl, sym, subst}
+use mathlib.Core.Path.{refl, sym, subst}
 use Prim.Native.Nat.{_<_}
 use lib.Dec.{T}
 use lib.Ieee.{binary64, fits, toBits}

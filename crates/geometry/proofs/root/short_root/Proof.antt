@@ -1,6 +1,6 @@
 -- `root::short_root` meets its contract. The invariant: q is at least the root. The measure is q. Assumes nothing.
 use borrow.Author.Needs.{needs}
-use Prim.Native.Nat.{_<_, _≤_, _+_, _*_, _^_}
+use Prim.Native.Nat.{_<_, _+_, _*_, _^_}
 use native.Mathlib.Omega.{arith}
 use Rattle.geometry.proofs.Steps.{small-square, above-zero, one-down, found}
 use Rattle.geometry.proofs.root.short_root.Statement.{statement}

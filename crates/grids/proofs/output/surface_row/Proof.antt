@@ -1,18 +1,19 @@
 -- The invariant: the first l poles of the row stand at its front. Assumes nothing.
 use mathlib.Core.Path.{_≡_, refl, sym, ap, _∙_}
 use mathlib.Core.List.{List, _++_, append-nil}
-use Prim.Native.Nat.{ℕ, _+_, _-_, _*_, _≤_}
+use Prim.Native.Nat.{ℕ, _+_, _-_, _*_, _≤_, _<_}
 use native.Mathlib.Omega.{arith}
 use lib.ListN.{length, drop}
 use lib.Seq.{drop-length}
 use lib.Ieee.{Float}
 use Rattle.places.specs.Places.{joined}
 use Rattle.places.specs.Regions.{part}
+use Rattle.places.proofs.PlaceLaws.{row-in}
 use Rattle.places.proofs.RegionLaws.{length-part}
 use Rattle.geometry.specs.declared.Point.{Point}
 use Rattle.geometry.specs.Points.{pointAt, pointsOf, putPoint}
 use Rattle.tables.proofs.SpliceLaws.{points-next}
-use Rattle.checks.proofs.GridCheckLaws.{points-few, place-below}
+use Rattle.checks.proofs.GridCheckLaws.{points-few}
 use borrow.Author.Needs.{needs}
 use Rattle.grids.proofs.output.surface_row.Statement.{statement}
 use Rattle.grids.proofs.output.surface_row.Tie as tie
@@ -25,6 +26,10 @@ Inv-loop work a columns count k row₀ end l₀ row l =
 
 abbrev μ-loop : tie.MeasureT-loop
 μ-loop work a columns count k row₀ end l₀ row l = columns - l
+
+-- pole k of column l lies among the columns' poles
+inside : (s : tie.Start Inv-loop μ-loop) (l : ℕ) → l < s .args .columns → l * s .args .count + s .args .k < s .args .columns * s .args .count
+inside s l h = omega (arith, row-in l (s .args .columns) (s .args .count) h, s .pre .2)
 
 mul-end : tie.Need-mul-end Inv-loop μ-loop
 mul-end c =
@@ -57,17 +62,17 @@ part-point-at-end c = search needs
 
 mul-point-at-2 : tie.Need-mul-point-at-2 Inv-loop μ-loop
 mul-point-at-2 c =
-    let i = place-below (c .before .before .loop .l) (c .before .before .before .before .before .args .k) (c .before .before .before .before .before .args .columns) (c .before .before .before .before .before .args .count) (omega arith) (c .before .before .before .before .before .pre .2) in
+    let i = inside (c .before .before .before .before .before) (c .before .before .loop .l) (omega arith) in
     omega (arith, i, points-few (c .before .before .before .before .before .args .columns) (c .before .before .before .before .before .args .count) (c .before .before .before .before .before .pre .0) (c .before .before .before .before .before .pre .1))
 
 add-point-at : tie.Need-add-point-at Inv-loop μ-loop
 add-point-at c =
-    let i = place-below (c .before .before .loop .l) (c .before .before .before .before .before .args .k) (c .before .before .before .before .before .args .columns) (c .before .before .before .before .before .args .count) (omega arith) (c .before .before .before .before .before .pre .2) in
+    let i = inside (c .before .before .before .before .before) (c .before .before .loop .l) (omega arith) in
     omega (arith, i, points-few (c .before .before .before .before .before .args .columns) (c .before .before .before .before .before .args .count) (c .before .before .before .before .before .pre .0) (c .before .before .before .before .before .pre .1))
 
 point-at-requires : tie.Need-point-at-requires Inv-loop μ-loop
 point-at-requires c κs =
-    let i = place-below (c .before .before .loop .l) (c .before .before .before .before .before .args .k) (c .before .before .before .before .before .args .columns) (c .before .before .before .before .before .args .count) (omega arith) (c .before .before .before .before .before .pre .2) in
+    let i = inside (c .before .before .before .before .before) (c .before .before .loop .l) (omega arith) in
     let s = c .before .before .before .before .before in
     let n = length-part (s .args .a) (s .args .a + 3 * (s .args .columns * s .args .count)) (s .args .work .now) (s .pre .3) in
     omega (arith, i, n)

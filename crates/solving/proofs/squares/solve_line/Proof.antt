@@ -4,7 +4,7 @@ use Prim.Native.Nat.{_+_, _*_}
 use lib.Ieee.{Float}
 use mathlib.Core.List.{List}
 use Rattle.places.proofs.RegionLaws.{splice-then}
-use Rattle.bands.specs.Cholesky.{substituteSymmetricBand}
+use Rattle.cholesky.specs.Cholesky.{substituteSymmetricBand}
 use Rattle.solving.specs.LeastSquares.{rightHand}
 use Rattle.tables.specs.Layout.{tableIn, dataPoint}
 use Rattle.tables.proofs.KeptLaws.{data-wider}

@@ -1,15 +1,9 @@
 -- By the kind: each branch reads the point that the definition names. Assumes nothing.
-use mathlib.Core.Path.{_≡_, ap, _∙_}
-use mathlib.Core.List.{List}
-use Prim.Native.Nat.{ℕ, _+_, _-_, _*_, _≤_}
-use lib.Ieee.{Float}
-use lib.ListN.{length, take, drop, length-drop}
-use lib.Seq.{take-all}
+use mathlib.Core.Path.{_≡_}
+use Prim.Native.Nat.{ℕ, _-_, _≤_}
 use borrow.Author.Tests.{eq-eqb, ne-eqb}
-use Rattle.geometry.specs.Points.{pointAt}
 use Rattle.tables.specs.Layout.{dataPoint}
 use native.Mathlib.Omega.{arith}
-use borrow.Author.Needs.{needs}
 use Rattle.tables.proofs.datum.data_point.Statement.{statement}
 use Rattle.tables.proofs.datum.data_point.Tie as tie
 

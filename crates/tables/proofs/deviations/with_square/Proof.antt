@@ -1,5 +1,5 @@
 -- The definition, by the test for a root. Assumes nothing.
-use mathlib.Core.Path.{_≡_, _∙_, ap}
+use mathlib.Core.Path.{_∙_, ap}
 use mathlib.Core.Bool.{not}
 use native.Mathlib.Nat.{add-zero}
 use borrow.Author.Needs.{needs}

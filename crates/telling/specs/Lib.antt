@@ -1,0 +1,3 @@
+-- What a call for C hands back.
+pub mod Told
+pub mod ToldGrid
