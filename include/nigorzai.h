@@ -77,10 +77,10 @@ uint32_t nigorzai_interpolate(const double *points, size_t points_length, size_t
 /* Least squares with a chosen number of poles. */
 uint32_t nigorzai_approximate(const double *points, size_t points_length, size_t degree, size_t count, size_t spacing, NIGORZAI_LENT);
 
-/* Within a tolerance: by refinement of the knots, else by the search for the fewest poles on spread knots, else through the points. */
+/* Within a tolerance: by refinement of the knots, else by the search over pole counts on spread knots (what it finds passes, one pole fewer does not), else through the points. */
 uint32_t nigorzai_approximate_within(const double *points, size_t points_length, size_t degree, double tolerance, size_t spacing, NIGORZAI_LENT);
 
-/* The search for the fewest poles on spread knots alone, else through the points. */
+/* The search over pole counts on spread knots alone, else through the points. */
 uint32_t nigorzai_search_spread(const double *points, size_t points_length, size_t degree, double tolerance, size_t spacing, NIGORZAI_LENT);
 
 /* A grid is rows * cols points, row after row; u runs along the rows' numbers and v along a row. The needed lengths, in places, with M

@@ -1,5 +1,4 @@
--- A row of a triangular system, as the program solves it for Cholesky's L and for LU's U alike: `Cholesky.forwardPoint` and `BandLu.backBandPoint` are two
--- cases of it.
+-- A row of a triangular system, for Cholesky's L and for LU's U alike. Definitions only.
 use mathlib.Core.List.{List}
 use Prim.Native.Nat.{ℕ}
 use lib.Ieee.{Float}

@@ -8,7 +8,7 @@ use geometry::Point;
 ghost use mathlib.Core.Path.{_≡_};
 ghost use Rattle.bspline.specs.Refusals.{numberOf};
 
-// Why a call is refused. The first six and the four of the reader after them have the Rust's names; document 01 adds the others.
+// Why a call is refused. The first six and TooFewKnots, KnotsNotIncreasing and MultiplicityTooLarge have the Rust's names; document 01 adds the others.
 // Document 01's number for each is `numberOf` in specs/Refusals.antt.
 pub enum Refusal {
     TooFewPoints,

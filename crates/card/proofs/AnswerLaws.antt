@@ -24,7 +24,7 @@ use Rattle.knots.specs.Knots.{runStart, distinctKnots, knotAt, multiplicityAt, 
 use Rattle.tables.specs.BasisTable.{BasisTable, basisTable}
 use Rattle.tables.specs.Deviations.{unreadable}
 use Rattle.tables.specs.Directions.{ladder, ladderPoint}
-use Rattle.solving.specs.Interpolation.{interpolation, interpolatedLine, interpolationMatrix}
+use Rattle.solving.specs.Interpolation.{interpolation, lineThrough, interpolationMatrix}
 use Rattle.tables.proofs.SpliceLaws.{length-points}
 use Rattle.solving.proofs.ThroughLaws.{length-substitute}
 use Rattle.lu.specs.BandLu.{factorBand}
@@ -52,17 +52,16 @@ pub record Stands (p n : ℕ) (f : Candidate) : Type 0 where
   pub poles-long : length (f .poles) ≡ 3 * poleCount p (f .flat)
 
 -- the poles of an interpolation
-line-long : (t : BasisTable) (band : List Float) (f : ℕ → Point) → length (interpolatedLine t band f) ≡ 3 * length (t .firsts)
-unfolding interpolatedLine
-line-long t band f =
-    let n = length (t .firsts) in
-    length-put-point (n - 1) (f (n - 1)) _ ∙ length-put-point 0 (f 0) _ ∙ length-substitute (t .degree - 1) n band (pointsOf n f) ∙ length-points n f
+line-long : (h n : ℕ) (band : List Float) (f : ℕ → Point) → length (lineThrough h n band f) ≡ 3 * n
+unfolding lineThrough
+line-long h n band f = length-put-point (n - 1) (f (n - 1)) _ ∙ length-put-point 0 (f 0) _ ∙ length-substitute h n band (pointsOf n f) ∙ length-points n f
 
 through-long : (t : BasisTable) (point : ℕ → ℕ → Point) → length (interpolation t 1 point) ≡ 1 * (3 * length (t .firsts))
 unfolding interpolation
 through-long t point =
-    let band = factorBand (t .degree - 1) (length (t .firsts)) (interpolationMatrix t) in
-    length-joined 1 (3 * length (t .firsts)) (λ r. interpolatedLine t band (point r)) (λ r h. line-long t band (point r))
+    let n = length (t .firsts) in
+    let band = factorBand (t .degree - 1) n (interpolationMatrix t) in
+    length-joined 1 (3 * n) (λ r. lineThrough (t .degree - 1) n band (point r)) (λ r h. line-long (t .degree - 1) n band (point r))
 
 firsts-long : (flat : List Float) (p : ℕ) (params : List Float) → length (basisTable flat p params .firsts) ≡ length params
 unfolding basisTable

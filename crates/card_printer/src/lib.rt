@@ -156,7 +156,7 @@ pub fn put_refusal(number: u32, out: &mut [u8]) -> usize
     put(b"\n", out, b)
 }
 
-// A text printed, so many bytes, or that there is no room for it.
+// A text printed, so many bytes, or that it is not: there is no room for it, or what is to be printed is no curve of 64 points.
 pub enum Printed {
     Text(usize),
     NoRoom,

@@ -16,11 +16,11 @@ use Rattle.places.proofs.PlaceLaws.{row-in}
 use Rattle.geometry.specs.Doubles.{_⊖_, _⊗_, _⊘_, at}
 use Rattle.geometry.specs.Root.{sqrtOf}
 use Rattle.bands.specs.Bands.{place, putEntry}
-use Rattle.cholesky.specs.Cholesky.{lowerEntry, reducedEntry, factorEntry, factorLeft, undetermined, factorDiagonal, factorRow, largestDiagonal, factorSymmetricBand}
-use Rattle.cholesky.specs.Textbook.{lessProducts, IsFactor}
+use Rattle.cholesky.specs.Cholesky.{lowerEntry, lessProducts, reducedEntry, factorEntry, factorLeft, undetermined, factorDiagonal, factorRow, largestDiagonal, factorSymmetricBand}
+use Rattle.cholesky.specs.Textbook.{IsFactor}
 
 reduced-is : (h : ℕ) (l : List Float) (i j : ℕ) → reducedEntry h l i j ≡ lessProducts h l i j (lowerEntry h l i j)
-unfolding reducedEntry lessProducts
+unfolding reducedEntry
 reduced-is h l i j = refl
 
 -- the same values up to a place, and from a place on
@@ -115,7 +115,6 @@ module _ (h : ℕ) (floor : Float) (n i : ℕ) (A L l m : List Float)
 
   -- so what is reduced is the matrix's entry by the factor's rows
   reduced-final : (j : ℕ) → j ≤ i → i ≤ j + h → reducedEntry h (before j) i j ≡ lessProducts h L i j (lowerEntry h A i j)
-  unfolding lessProducts
   reduced-final j a b =
       let same = same-before (place (h + 1) h i j) L (before j) (final-before j a b) in
       reduced-is h (before j) i j

@@ -11,14 +11,19 @@ use Rattle.geometry.specs.Doubles.{_⊖_, _⊗_, _⊘_, one, largest}
 use Rattle.geometry.specs.Root.{sqrtOf}
 use Rattle.geometry.specs.Points.{pointAt, putPoint, lessScaled, scaled}
 use Rattle.bands.specs.Bands.{entry, putEntry, reach}
+use Rattle.bands.specs.SolvedRow.{solvedRow}
 
 -- L[i][j] of a lower half-band of half-width h
 abbrev pub lowerEntry : ℕ → List Float → ℕ → ℕ → Float
 lowerEntry h l i j = entry (h + 1) h l i j
 
+-- s - Σ L[i][k] L[j][k] over the columns k before j that row i reaches
+abbrev pub lessProducts : ℕ → List Float → ℕ → ℕ → Float → Float
+lessProducts h l i j s = each (i - h) j (λ k s. s ⊖ lowerEntry h l i k ⊗ lowerEntry h l j k) s
+
 -- A[i][j] less the products of rows i and j over the columns before j
 unfoldable pub reducedEntry : ℕ → List Float → ℕ → ℕ → Float
-reducedEntry h l i j = each (i - h) j (λ k s. s ⊖ lowerEntry h l i k ⊗ lowerEntry h l j k) (lowerEntry h l i j)
+reducedEntry h l i j = lessProducts h l i j (lowerEntry h l i j)
 
 -- L[i][j] left of the diagonal: the reduced A[i][j] by the diagonal of row j
 unfoldable pub factorEntry : ℕ → ℕ → ℕ → List Float → List Float
@@ -50,8 +55,7 @@ factorSymmetricBand h n relative l = let floor = relative ⊗ largestDiagonal h 
 
 -- L y = b, row i: from the points before i, which are y's already, and point i, which is b's
 unfoldable pub forwardPoint : ℕ → List Float → List Float → ℕ → Point
-forwardPoint h lower poles i =
-    scaled (each (i - h) i (λ k y. lessScaled y (lowerEntry h lower i k) (pointAt poles k)) (pointAt poles i)) (one ⊘ lowerEntry h lower i i)
+forwardPoint h lower poles i = solvedRow (h + 1) h lower poles i (i - h) i
 
 -- row i put in its place
 unfoldable pub forwardRow : ℕ → List Float → ℕ → List Float → List Float

@@ -3,16 +3,11 @@
 use mathlib.Core.Path.{_≡_}
 use mathlib.Core.Bool.{false}
 use mathlib.Core.List.{List}
-use Prim.Native.Nat.{ℕ, _+_, _-_, _≤_, _<_}
+use Prim.Native.Nat.{ℕ, _+_, _≤_, _<_}
 use lib.Ieee.{Float}
-use Rattle.places.specs.Loops.{each}
-use Rattle.geometry.specs.Doubles.{_⊖_, _⊗_, _⊘_}
+use Rattle.geometry.specs.Doubles.{_⊗_, _⊘_}
 use Rattle.geometry.specs.Root.{sqrtOf}
-use Rattle.cholesky.specs.Cholesky.{lowerEntry, undetermined, largestDiagonal}
-
--- s - Σ L[i][k] L[j][k] over the columns k before j that row i reaches
-unfoldable pub lessProducts : ℕ → List Float → ℕ → ℕ → Float → Float
-lessProducts h l i j s = each (i - h) j (λ k s. s ⊖ lowerEntry h l i k ⊗ lowerEntry h l j k) s
+use Rattle.cholesky.specs.Cholesky.{lowerEntry, lessProducts, undetermined, largestDiagonal}
 
 -- Cholesky's equations for A = L L' of n rows and half-width h:
 --   L[i][j] = (A[i][j] - Σ L[i][k] L[j][k]) / L[j][j] left of the diagonal, and L[i][i] = sqrt (A[i][i] - Σ L[i][k] L[i][k]),

@@ -9,12 +9,12 @@ use Rattle.geometry.specs.Root.{rootBelow, wholeRoot, nearestRoot, rootUnits, s
 use Rattle.geometry.specs.Points.{distance, pointAt}
 use Rattle.bspline.specs.Basis.{share, rising, row, basis, leftOf, rightOf, basisAt}
 use Rattle.knots.specs.Parameters.{chords, stepOf, runningSums, stepSums, fromZeroToOne, pointParameters}
-use Rattle.knots.specs.Knots.{clampedKnots, carried, averagedKnot, averagedKnots, spreadKnot, approximationKnots, equalFrom, runLength, runStart, distinctKnots, knotAt, multiplicityAt}
+use Rattle.knots.specs.Knots.{clampedKnots, carried, averagedKnot, averagedKnots, betweenPlaces, spreadKnot, approximationKnots, equalFrom, runLength, runStart, distinctKnots, knotAt, multiplicityAt}
 use Rattle.search.specs.Search.{turn, tried}
 
 -- to unfold this is to unfold the definitions of the M cases and the operations of lib.Ieee
 unfoldable pub opened : ℕ
-unfolding add sub mul div neg lt le eq ofBits toBits ofInt toUnsigned isNan times each listOf someBelow countBelow sumBelow rootBelow wholeRoot nearestRoot rootUnits sqrtOf distance pointAt share rising row basis leftOf rightOf basisAt chords stepOf runningSums stepSums fromZeroToOne pointParameters clampedKnots carried averagedKnot averagedKnots spreadKnot approximationKnots equalFrom runLength runStart distinctKnots knotAt multiplicityAt turn tried
+unfolding add sub mul div neg lt le eq ofBits toBits ofInt toUnsigned isNan times each listOf someBelow countBelow sumBelow rootBelow wholeRoot nearestRoot rootUnits sqrtOf distance pointAt share rising row basis leftOf rightOf basisAt chords stepOf runningSums stepSums fromZeroToOne pointParameters clampedKnots carried averagedKnot averagedKnots betweenPlaces spreadKnot approximationKnots equalFrom runLength runStart distinctKnots knotAt multiplicityAt turn tried
 opened = 0
 
 abbrev pub bits : ℕ → Float

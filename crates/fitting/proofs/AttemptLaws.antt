@@ -25,7 +25,7 @@ use Rattle.tables.specs.Deviations.{gridDistances}
 use Rattle.tables.specs.Directions.{Direction, transposed}
 use Rattle.tables.specs.Layout.{tableIn, dataPoint, Kept, HasTable, HasData, FillsTable, HasSquares, Squared}
 use Rattle.tables.specs.Measures.{measured}
-use Rattle.solving.specs.Through.{Interpolates, Interpolated}
+use Rattle.solving.specs.Through.{HasInterpolation, Interpolated}
 use Rattle.tables.proofs.KeptLaws.{cond-same, above-one, all-data-same, data-wider, kept-same, kept-splice, kept-wider, kept-then, kept-part, kept-table, has-table-kept}
 use Rattle.tables.proofs.TableLaws.{length-firsts, length-values, table-filled, has-filled}
 use Rattle.fitting.specs.declared.Job.{Job}
@@ -210,7 +210,7 @@ module _ (j : Job) (points w : List Float) (index : List ℕ) (has : HasJob j po
       room = omega (arith, few-lines, kept-filled .long, has .poles-in, has .curve-in, has .deviations-in, has .fresh-in);
     }
 
-    pub interpolates : l ≡ t .count + t .degree + 1 → Interpolates t (j .given) (j .band) (j .poles) points w₁ index₁
+    pub interpolates : l ≡ t .count + t .degree + 1 → HasInterpolation t (j .given) (j .band) (j .poles) points w₁ index₁
     interpolates z = record {
       table = subst (λ (n : ℕ). HasTable t n w₁ index₁) (omega arith) has-table;
       given = has-data;
@@ -401,7 +401,7 @@ module _ (j : Job) (points w : List Float) (index : List ℕ) (has : HasJob j po
   module _ (w₁ : List Float) (index₁ : List ℕ)
       (e : index₁ ≡ splice (j .table .firsts) (j .table .firsts + j .table .count) (made j points wₖ index has-averaged most full .firsts) index)
       (f : w₁ ≡ splice (j .table .values) (j .table .values + j .table .count * (j .table .degree + 1)) (made j points wₖ index has-averaged most full .values) wₖ) where
-    pub through-requires : Interpolates (j .table) (j .given) (j .band) (j .poles) points w₁ index₁
+    pub through-requires : HasInterpolation (j .table) (j .given) (j .band) (j .poles) points w₁ index₁
     through-requires = interpolates j points wₖ index has-averaged most full w₁ index₁ e f refl
 
     same-poles : most - j .table .degree - 1 ≡ j .table .count

@@ -8,9 +8,9 @@ use lib.Ieee.{Float}
 use borrow.Author.Tests.{eq-eqb, ne-eqb}
 use Rattle.places.specs.Regions.{part}
 use Rattle.tables.specs.declared.Measured.{Measured}
-use Rattle.tables.specs.Deviations.{ladderDistances, rowDistances}
+use Rattle.tables.specs.Deviations.{ladderDistances, rowDistances, pointDeviations, largestOverRows, largestOverColumns}
 use Rattle.tables.specs.Layout.{tableIn, HasTable, HasFit}
-use Rattle.tables.specs.Measures.{measured, HasGrid, LeavesSquares, pointDeviations, columnDeviations, rowDeviations, gridDistancesIn}
+use Rattle.tables.specs.Measures.{measured, HasGrid, LeavesSquares, gridDistancesIn}
 use Rattle.tables.proofs.KeptLaws.{kept-wider}
 use Rattle.fitting.specs.declared.Job.{Job}
 use Rattle.fitting.specs.Jobs.{directionOf, distancesBy, deviationsBy, distancesIn, HasJob, Measures}
@@ -66,12 +66,12 @@ module _ (j : Job) (points w : List Float) (index : List ℕ) (has : HasJob j po
     row-distances = rw (ne-eqb (j .given .kind) 0 (λ z. omega arith), eq-eqb _ _ e) refl
 
     pub measures-rows : (w′ : List Float) (r : Measured)
-        → LeavesSquares (j .table .count) (j .deviations) (j .deviations) (columnDeviations (j .given .lines) (j .table .count)) rowOnes w w′ r
+        → LeavesSquares (j .table .count) (j .deviations) (j .deviations) (largestOverRows (j .given .lines) (j .table .count)) rowOnes w w′ r
         → Measures j points m w w′ index r
     unfolding directionOf deviationsBy
     measures-rows w′ r x = record {
       measures = x .measures ∙ ap measured (sym row-distances);
-      deviations = rw (ne-eqb (j .given .kind) 0 (λ z. omega arith), eq-eqb _ _ e) (x .deviations ∙ ap (columnDeviations (j .given .lines) (j .table .count)) (sym row-distances));
+      deviations = rw (ne-eqb (j .given .kind) 0 (λ z. omega arith), eq-eqb _ _ e) (x .deviations ∙ ap (largestOverRows (j .given .lines) (j .table .count)) (sym row-distances));
       kept = kept-wider (j .deviations) (j .deviations + j .table .count) (j .curve) (j .deviations + j .table .count) w w′ (has .curve-in) (omega arith) (x .kept);
     }
 
@@ -102,13 +102,13 @@ module _ (j : Job) (points w : List Float) (index : List ℕ) (has : HasJob j po
     column-distances = rw (ne-eqb (j .given .kind) 0 (λ z. omega arith), ne-eqb (j .given .kind) 1 (λ z. omega arith)) refl
 
     pub measures-columns : (w′ : List Float) (r : Measured)
-        → LeavesSquares (j .table .count) (j .curve) (j .deviations) (rowDeviations (j .table .count) (j .other .count)) (gridDistancesIn (j .table) (j .other) (j .given .lines) m (j .poles) points w index) w w′ r
+        → LeavesSquares (j .table .count) (j .curve) (j .deviations) (largestOverColumns (j .table .count) (j .other .count)) (gridDistancesIn (j .table) (j .other) (j .given .lines) m (j .poles) points w index) w w′ r
         → Measures j points m w w′ index r
     unfolding directionOf deviationsBy
     measures-columns w′ r x = record {
       measures = x .measures ∙ ap measured (sym column-distances);
       deviations =
           rw (ne-eqb (j .given .kind) 0 (λ z. omega arith), ne-eqb (j .given .kind) 1 (λ z. omega arith))
-          (x .deviations ∙ ap (rowDeviations (j .table .count) (j .other .count)) (sym column-distances));
+          (x .deviations ∙ ap (largestOverColumns (j .table .count) (j .other .count)) (sym column-distances));
       kept = x .kept;
     }

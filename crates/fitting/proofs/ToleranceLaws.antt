@@ -20,7 +20,7 @@ use Rattle.search.specs.declared.Found.the-variants.{At, Nothing}
 use Rattle.search.specs.Search.{fewest}
 use Rattle.refinement.specs.Refinement.{refinedKnots}
 use Rattle.fitting.specs.Within.{Candidate, Marked, refined, spread, interpolated, chosen, poleCount, tableOn, candidate, candidateOf, fitOn, fitOnSpread, interpolate, Refining, going, fitted, stuck, goingOn, judged, refinementRound, refinementRounds, fitIn, fitWithRefinedKnots, candidatePasses, passesOnSpread, spreadOr, foundOr, fitOnSpreadKnots, spreadAlone, refinedOr, fitWithin, fewerOr, fitWithinFewest}
-use Rattle.fitting.specs.Tolerance.{NoneAbove, Fails, KeepsTolerance, NeverMorePoles}
+use Rattle.fitting.specs.Tolerance.{NoneAbove, Fails, KeepsTolerance}
 use Rattle.fitting.specs.Marks.{unmarked}
 use Rattle.search.proofs.Fewest.{IsFound, found, nothing, fewest-monotone}
 use Rattle.fitting.proofs.DeviationLaws.{all-none, all-mono, largest-none, largest-mono}
@@ -153,7 +153,7 @@ module _ (d : Direction) (lawful : Lawful d) where
         refined-within = λ g e. let q : f ≡ g = cc in subst (λ (x : Candidate). NoneAbove t (x .distances)) q (largest-none t (f .distances) h .1);
         spread-within = λ c g e. absurd (other-mark (refined f) (spread c g) (omega arith) e);
         spread-passes = λ c g e. absurd (other-mark (refined f) (spread c g) (omega arith) e);
-        spread-least = λ c g e. absurd (other-mark (refined f) (spread c g) (omega arith) e);
+        one-below-fails = λ c g e. absurd (other-mark (refined f) (spread c g) (omega arith) e);
         interpolated-stuck = λ g e. absurd (other-mark (refined f) (interpolated g) (omega arith) e);
         interpolated-last = λ g e. absurd (other-mark (refined f) (interpolated g) (omega arith) e);
       }
@@ -164,7 +164,7 @@ module _ (d : Direction) (lawful : Lawful d) where
         refined-within = λ g e. absurd (other-mark (refined g) (spread c f) (omega arith) (sym e));
         spread-within = λ n g e. let q : f ≡ g = cc in subst (λ (x : Candidate). NoneAbove t (x .distances)) q (h .close);
         spread-passes = λ n g e. let q : c ≡ n = cc in rw (← q) (h .passed);
-        spread-least = λ n g e. let q : c ≡ n = cc in rw (← q) (h .least);
+        one-below-fails = λ n g e. let q : c ≡ n = cc in rw (← q) (h .least);
         interpolated-stuck = λ g e. absurd (other-mark (spread c f) (interpolated g) (omega arith) e);
         interpolated-last = λ g e. absurd (other-mark (spread c f) (interpolated g) (omega arith) e);
       }
@@ -175,7 +175,7 @@ module _ (d : Direction) (lawful : Lawful d) where
         refined-within = λ g e. absurd (other-mark (refined g) (interpolated f) (omega arith) (sym e));
         spread-within = λ c g e. absurd (other-mark (spread c g) (interpolated f) (omega arith) (sym e));
         spread-passes = λ c g e. absurd (other-mark (spread c g) (interpolated f) (omega arith) (sym e));
-        spread-least = λ c g e. absurd (other-mark (spread c g) (interpolated f) (omega arith) (sym e));
+        one-below-fails = λ c g e. absurd (other-mark (spread c g) (interpolated f) (omega arith) (sym e));
         interpolated-stuck = λ g e. refl;
         interpolated-last = λ g e. l;
       }
@@ -273,7 +273,3 @@ module _ (d : Direction) (lawful : Lawful d) where
       go (At c) r s e =
           let m = fewest-monotone (passesOnSpread d t) (passesOnSpread d u) (passes-rises t u h) (d .degree) (length (d .params)) c r in
           omega (arith, alone-poles t c r, alone-poles u (m .0) (m .1), m .2)
-
-  -- the second half of demand 3
-  pub never-more-poles : NeverMorePoles d
-  never-more-poles = record { spread-again = spread-again; no-more = no-more }

@@ -7,13 +7,11 @@ use Prim.Native.Nat.{ℕ, _+_, _-_, _*_, _≤_, _<_}
 use lib.Dec.{eqb}
 use lib.ListN.{length}
 use lib.Ieee.{Float}
-use Rattle.places.specs.Places.{listOf}
 use Rattle.places.specs.Regions.{part, splice}
-use Rattle.geometry.specs.Doubles.{at, largest}
 use Rattle.geometry.specs.Root.{rootsOf}
 use Rattle.tables.specs.declared.Measured.{Measured}
 use Rattle.tables.specs.BasisTable.{BasisTable}
-use Rattle.tables.specs.Deviations.{ladderDistances, rowDistances, gridDistances, allWithin, largestWithin}
+use Rattle.tables.specs.Deviations.{ladderDistances, rowDistances, gridDistances, pointDeviations, largestOverRows, largestOverColumns, allWithin, largestWithin}
 use Rattle.tables.specs.Layout.{tableIn, dataPoint, Kept, HasTable, HasData}
 use Rattle.tables.specs.Measures.{measured}
 use Rattle.tables.specs.Directions.{Direction, transposed}
@@ -38,9 +36,8 @@ distancesBy j points v =
 
 unfoldable pub deviationsBy : Job → List Float → List Float
 deviationsBy j =
-    cond (eqb (j .given .kind) 0) (λ (ds : List Float). ds)
-    (cond (eqb (j .given .kind) 1) (λ (ds : List Float). listOf (j .table .count) (λ k. largest (listOf (j .given .lines) (λ i. at ds (i * j .table .count + k)))))
-    (λ (ds : List Float). listOf (j .table .count) (λ i. largest (listOf (j .other .count) (λ k. at ds (i * j .other .count + k))))))
+    cond (eqb (j .given .kind) 0) pointDeviations
+    (cond (eqb (j .given .kind) 1) (largestOverRows (j .given .lines) (j .table .count)) (largestOverColumns (j .table .count) (j .other .count)))
 
 unfoldable pub withinBy : ℕ → Float → List Float → Bool
 withinBy kind = cond (eqb kind 0) allWithin largestWithin

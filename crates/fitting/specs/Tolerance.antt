@@ -1,14 +1,13 @@
 -- Demand 3 of a fit of one direction: what is kept to the tolerance, in the words of document 01, and of nothing but what was handed in. Definitions only.
-use Prim.Native.Nat.{ℕ, _-_, _<_, _≤_}
+use Prim.Native.Nat.{ℕ, _-_, _<_}
 use mathlib.Core.Path.{_≡_}
 use mathlib.Core.Bool.{true, false}
 use mathlib.Core.List.{List, []}
 use mathlib.Core.Option.{Option, none, some}
 use lib.ListN.{length, getD}
-use lib.Ieee.{Float, nan, lt, le}
+use lib.Ieee.{Float, nan, lt}
 use Rattle.tables.specs.Directions.{Direction}
-use Rattle.fitting.specs.Within.{Candidate, Marked, refined, spread, interpolated, poleCount, passesOnSpread, spreadAlone}
-use Rattle.fitting.specs.Marks.{unmarked}
+use Rattle.fitting.specs.Within.{Candidate, Marked, refined, spread, interpolated, passesOnSpread}
 
 -- no computed deviation is above the tolerance
 abbrev pub NoneAbove : Float → List Float → Type 0
@@ -23,17 +22,9 @@ pub record KeepsTolerance (d : Direction) (t : Float) (refinement : Option Candi
   pub refined-within : (f : Candidate) → a ≡ refined f → NoneAbove t (f .distances)
   pub spread-within : (count : ℕ) (f : Candidate) → a ≡ spread count f → NoneAbove t (f .distances)
   pub spread-passes : (count : ℕ) (f : Candidate) → a ≡ spread count f → passesOnSpread d t count ≡ true
-  pub spread-least : (count : ℕ) (f : Candidate) → a ≡ spread count f → Fails d t (count - 1)
+  pub one-below-fails : (count : ℕ) (f : Candidate) → a ≡ spread count f → Fails d t (count - 1)
   pub interpolated-stuck : (f : Candidate) → a ≡ interpolated f → refinement ≡ none
   pub interpolated-last : (f : Candidate) → a ≡ interpolated f → Fails d t (length (d .params) - 1)
-
--- Two tolerances, the first at or below the second: where the spread search alone gives a fit for the first, it gives one for the second, over no more
--- poles. Where it interpolates it has as many poles as points.
-pub record NeverMorePoles (d : Direction) : Type 0 where
-  pub spread-again :
-      (t t′ : Float) → le t t′ ≡ true → (count : ℕ) (f : Candidate) → spreadAlone d t ≡ spread count f
-      → (count′ : ℕ) × ((f′ : Candidate) × ((spreadAlone d t′ ≡ spread count′ f′) × (count′ ≤ count)))
-  pub no-more : (t t′ : Float) → le t t′ ≡ true → poleCount (d .degree) (unmarked (spreadAlone d t′) .flat) ≤ poleCount (d .degree) (unmarked (spreadAlone d t) .flat)
 
 -- the parameters of a direction; none where its spacing gives none
 abbrev pub paramsOr : Option (List Float) → List Float

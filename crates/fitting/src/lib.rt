@@ -30,8 +30,8 @@ impl Mark {
         }
     }
 
-    // Document 01's number of the mark.
-    pub fn kind(self) -> usize
+    // The mark's number, for C and for lists.
+    pub fn number(self) -> usize
         ensures { λ r. ⌜ r ≡ markNumber self ⌝ }
     {
         match self {

@@ -2,7 +2,7 @@
 ghost use mathlib.Core.Path.{_≡_};
 ghost use Rattle.geometry.specs.Doubles.{larger, largest, isFinite, wholePart};
 
-// The larger of two, as `f64::max` folds it: the first unless the second is above it, so that a NaN is passed over.
+// The larger of two, as `f64::max` folds it from 0: the first unless the second is above it, so that a second that is NaN is passed over.
 pub fn max(x: f64, y: f64) -> f64
     ensures { λ r. ⌜ r ≡ larger x y ⌝ }
 {

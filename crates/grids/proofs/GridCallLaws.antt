@@ -11,7 +11,7 @@ use lib.Ieee.{Float}
 use Rattle.places.specs.Regions.{part, splice}
 use Rattle.places.proofs.RegionLaws.{length-splice, part-splice, take-splice}
 use Rattle.bspline.specs.declared.Refusal.{Refusal}
-use Rattle.bspline.specs.declared.Refusal.the-variants.{PoleCountMismatch, ConfusedPoints}
+use Rattle.bspline.specs.declared.Refusal.the-variants.{ConfusedPoints}
 use Rattle.bspline.specs.declared.Verdict.{Verdict}
 use Rattle.bspline.specs.declared.Verdict.the-variants.{Pass, Stop}
 use Rattle.knots.specs.declared.Spacing.{Spacing}
@@ -25,9 +25,8 @@ use Rattle.fitting.specs.declared.Job.{Job}
 use Rattle.making.specs.declared.Standing.{Standing}
 use Rattle.making.specs.declared.Made.{Made}
 use Rattle.making.specs.declared.Made.the-variants.{Fails, Stands}
-use Rattle.fitting.specs.Within.{Candidate, Marked, chosen, fitOnSpread}
 use Rattle.fitting.specs.Marks.{unmarked}
-use Rattle.making.specs.Results.{chosenOr, fitTo}
+use Rattle.making.specs.Results.{fitTo}
 use Rattle.checks.specs.LadderChecks.{aimVerdict}
 use Rattle.fitting.specs.Jobs.{directionOf, HasJob}
 use Rattle.making.specs.Runs.{standingIn, madeIn, HasSaved, StandsIn, Makes}
@@ -39,8 +38,8 @@ use Rattle.checks.specs.declared.SurfaceCall.{SurfaceCall}
 use Rattle.checks.specs.declared.SurfaceCall.the-variants.{Approximate, ApproximateWithin}
 use Rattle.grids.specs.declared.GridAnswer.{GridAnswer}
 use Rattle.checks.specs.GridChecks.{Grid, gridOf, gridLent, gridRoomOf, GridShaped, GridRoomy, countsVerdict}
-use Rattle.grids.specs.Grids.{gridRefused, uParameters, vParameters, alongV, alongU, chosenU, chosenV, rowsWithin, fitGridBy, gridChecked, gridFitWith, gridFit, HandsOutGrid}
-use Rattle.grids.specs.GridRuns.{rowAim, columnAim, besideRows, afterRows, rowsJob, columnsJob, behind, uParamsIn, vParamsIn, rowsIn, columnsOver, rowsResult, Passed, countOf, knotsOf, HasBoth, HandsBoth}
+use Rattle.grids.specs.Grids.{gridRefused, uParameters, vParameters, alongU, fitGridBy, gridChecked, gridFitWith, gridFit, HandsOutGrid, rowAim, columnAim, besideRows}
+use Rattle.grids.specs.GridRuns.{rowsJob, columnsJob, behind, uParamsIn, vParamsIn, rowsIn, columnsOver, rowsResult, Passed, countOf, knotsOf, HasBoth, HandsBoth}
 use Rattle.grids.proofs.GridRunLaws.{has-rows-job, has-rows-saved, has-columns-job, has-columns-saved, n-most, n-least, still-long, has-other, columns-direction, grid-same, hands-grid}
 
 -- ---- both directions by their aims
@@ -49,21 +48,6 @@ pub aims-pass : (call : SurfaceCall) (h : Shape) → countsVerdict call h ≡ Pa
 unfolding countsVerdict aimVerdict columnAim rowAim
 aims-pass (Approximate m n) h e = both-pass _ _ e
 aims-pass (ApproximateWithin t) h e = both-pass _ _ e
-
-pub fit-by-aims : (call : SurfaceCall) (g : Grid) (us vs : List Float)
-    → fitGridBy call g us vs ≡ afterRows (fitTo (rowAim call) (alongV (g .points) (g .shape) vs)) (λ v. fitTo (columnAim call) (alongU (g .points) (g .shape) us vs (unmarked v)))
-unfolding fitGridBy rowsWithin chosenU chosenV chosenOr unmarked afterRows besideRows fitTo rowAim columnAim
-fit-by-aims (Approximate m n) g us vs = by-rows (fitOnSpread (alongV (g .points) (g .shape) vs) n)
-  where
-    by-columns : (v : Candidate) (o : Option Candidate) → chosenU (chosen v) o ≡ besideRows (chosen v) (chosenOr PoleCountMismatch o)
-    by-columns v none = refl
-    by-columns v (some u) = refl
-
-    by-rows : (o : Option Candidate)
-        → chosenV g m us vs o ≡ afterRows (chosenOr PoleCountMismatch o) (λ (v : Marked). chosenOr PoleCountMismatch (fitOnSpread (alongU (g .points) (g .shape) us vs (unmarked v)) m))
-    by-rows none = refl
-    by-rows (some v) = by-columns v (fitOnSpread (alongU (g .points) (g .shape) us vs v) m)
-fit-by-aims (ApproximateWithin t) g us vs = refl
 
 -- ---- after the checks
 
@@ -283,4 +267,3 @@ module _ (call : SurfaceCall) (points : List Float) (h : Shape) (v : Spacing) wh
           ∙ ap (λ (z : Verdict). gridChecked z (fitGridBy call g us vs)) e
           ∙ ap (λ (z : List Float). fitGridBy call g z vs) a
           ∙ ap (fitGridBy call g (uParamsIn h w)) b
-          ∙ fit-by-aims call g (uParamsIn h w) (vParamsIn h w)

@@ -36,8 +36,8 @@ use Rattle.grids.specs.declared.GridFit.{GridFit}
 use Rattle.grids.specs.declared.GridAnswer.{GridAnswer}
 use Rattle.grids.specs.declared.GridAnswer.the-variants.{Fitted, Refused}
 use Rattle.checks.specs.GridChecks.{GridLent, gridLent, GridShaped, workLength, indexLength}
-use Rattle.grids.specs.Grids.{GridResult, gridRefused, gridAccepted, alongV, alongU, gridAnswerOf, surfacePoles, gridHanded, HandsOutGrid}
-use Rattle.grids.specs.GridRuns.{rowAim, columnAim, besideRows, afterRows, rowsJob, columnsJob, behind, uParamsIn, vParamsIn, rowsIn, columnsOver, rowsResult, countOf, knotsOf, placesOf, fitIn, HandsBoth}
+use Rattle.grids.specs.Grids.{GridResult, gridRefused, gridAccepted, alongV, alongU, gridAnswerOf, surfacePoles, gridHanded, HandsOutGrid, rowAim, columnAim, besideRows, afterRows}
+use Rattle.grids.specs.GridRuns.{rowsJob, columnsJob, behind, uParamsIn, vParamsIn, rowsIn, columnsOver, rowsResult, countOf, knotsOf, polePlaces, directionFit, HandsBoth}
 use Rattle.grids.proofs.SurfaceLaws.{length-transposed}
 
 -- ---- room
@@ -309,7 +309,7 @@ module _ (j : Job) (points w : List Float) (index : List ℕ) (has : HasJob j po
       let z : countOf j x + j .table .degree + 1 ≡ x .flat = omega (arith, stood .few .least) in
       ap (λ (k : ℕ). part (j .flat) (j .flat + k) w) z
 
-  pub fit-is : (w′ : List Float) → knotsOf j x w′ ≡ knotsOf j x w → fitIn j x w′ ≡ fitOf (j .table .degree) (standingIn j points w index x)
+  pub fit-is : (w′ : List Float) → knotsOf j x w′ ≡ knotsOf j x w → directionFit j x w′ ≡ fitOf (j .table .degree) (standingIn j points w index x)
   unfolding fitOf standingIn
   fit-is w′ e =
       fit-same (x .mark) (markOf (standingIn j points w index x)) (countOf j x) (poleCount (j .table .degree) (unmarked (standingIn j points w index x) .flat)) (distinctKnots (knotsOf j x w′))
@@ -336,7 +336,7 @@ module _ (h : Shape) (points w : List Float) (index : List ℕ) (x : Standing) (
   u-knots-are = knots-are (columnsJob h n) points w₃ index₃ columns-has y over ∙ sym (standing-flat (columnsJob h n) points w₃ index₃ columns-has y over)
 
   surface-is : transposed (countOf (rowsJob h) x) (countOf (columnsJob h n) y)
-      (part (columnsJob h n .poles) (columnsJob h n .poles + placesOf (rowsJob h) x (columnsJob h n) y) w₃) ≡ surfacePoles h (unmarked u) (unmarked v)
+      (part (columnsJob h n .poles) (columnsJob h n .poles + polePlaces (rowsJob h) x (columnsJob h n) y) w₃) ≡ surfacePoles h (unmarked u) (unmarked v)
   unfolding surfacePoles polesIn
   surface-is =
       let a = countOf (rowsJob h) x in
@@ -346,9 +346,9 @@ module _ (h : Shape) (points w : List Float) (index : List ℕ) (x : Standing) (
       ∙ ap (λ (k : ℕ). transposed k m (unmarked u .poles)) (sym (standing-count (rowsJob h) points w index rows-has x stood))
       ∙ ap (λ (k : ℕ). transposed (poleCount (h .v) (unmarked v .flat)) k (unmarked u .poles)) (sym (standing-count (columnsJob h n) points w₃ index₃ columns-has y over))
 
-  places-are : placesOf (rowsJob h) x (columnsJob h n) y ≡ length (surfacePoles h (unmarked u) (unmarked v))
+  places-are : polePlaces (rowsJob h) x (columnsJob h n) y ≡ length (surfacePoles h (unmarked u) (unmarked v))
   places-are =
-      sym (length-transposed (countOf (rowsJob h) x) (countOf (columnsJob h n) y) (part (columnsJob h n .poles) (columnsJob h n .poles + placesOf (rowsJob h) x (columnsJob h n) y) w₃))
+      sym (length-transposed (countOf (rowsJob h) x) (countOf (columnsJob h n) y) (part (columnsJob h n .poles) (columnsJob h n .poles + polePlaces (rowsJob h) x (columnsJob h n) y) w₃))
       ∙ ap length surface-is
 
   pub hands-grid : {poles poles′ uFlat uFlat′ uKnots uKnots′ vFlat vFlat′ vKnots vKnots′ : List Float} {uMults uMults′ vMults vMults′ : List ℕ} {r : GridAnswer}
@@ -358,12 +358,12 @@ module _ (h : Shape) (points w : List Float) (index : List ℕ) (x : Standing) (
   unfolding gridAnswerOf gridHanded
   hands-grid {poles} {poles′} {uFlat} {uFlat′} {uKnots} {uKnots′} {vFlat} {vFlat′} {vKnots} {vKnots′} {uMults} {uMults′} {vMults} {vMults′} {r} out work work′ i i′ =
       let s : List Float = transposed (countOf (rowsJob h) x) (countOf (columnsJob h n) y)
-      (part (columnsJob h n .poles) (columnsJob h n .poles + placesOf (rowsJob h) x (columnsJob h n) y) w₃) in
+      (part (columnsJob h n .poles) (columnsJob h n .poles + polePlaces (rowsJob h) x (columnsJob h n) y) w₃) in
       record {
         answer =
             out .answer
             ∙ ap Fitted
-            (fits-same (fitIn (columnsJob h n) y w₃) (fitOf (h .u) u) (fitIn (rowsJob h) x w₃) (fitOf (h .v) v)
+            (fits-same (directionFit (columnsJob h n) y w₃) (fitOf (h .u) u) (directionFit (rowsJob h) x w₃) (fitOf (h .v) v)
             (fit-is (columnsJob h n) points w₃ index₃ columns-has y over w₃ refl) (fit-is (rowsJob h) points w index rows-has x stood w₃ same));
         poles =
             out .surface

@@ -6,45 +6,24 @@ use lib.ListN.{length}
 use lib.Ieee.{Float}
 use Rattle.places.specs.Places.{laid}
 use Rattle.places.specs.Regions.{part}
-use Rattle.geometry.specs.Doubles.{_⊗_, at}
+use Rattle.geometry.specs.Doubles.{at}
 use Rattle.bspline.specs.declared.Verdict.the-variants.{Pass}
 use Rattle.knots.specs.Knots.{distinctKnots}
 use Rattle.tables.specs.Directions.{transposed}
 use Rattle.fitting.specs.declared.Fit.{Fit}
-use Rattle.checks.specs.declared.Aim.{Aim}
-use Rattle.checks.specs.declared.Aim.the-variants.{Count, Within}
 use Rattle.fitting.specs.declared.Job.{Job}
 use Rattle.making.specs.declared.Standing.{Standing}
 use Rattle.fitting.specs.Within.{Marked}
 use Rattle.fitting.specs.Marks.{unmarked}
-use Rattle.making.specs.Results.{Result, refused, accepted, fitTo}
+use Rattle.making.specs.Results.{fitTo}
 use Rattle.making.specs.HandedOut.{HasKnotsOut, HandedKnots}
 use Rattle.making.specs.Runs.{standingIn}
 use Rattle.checks.specs.declared.Shape.{Shape}
 use Rattle.grids.specs.declared.GridAnswer.{GridAnswer}
 use Rattle.grids.specs.declared.GridAnswer.the-variants.{Fitted}
 use Rattle.checks.specs.declared.SurfaceCall.{SurfaceCall}
-use Rattle.checks.specs.declared.SurfaceCall.the-variants.{Approximate, ApproximateWithin}
-use Rattle.grids.specs.Grids.{GridResult, gridRefused, gridAccepted, rowShare, alongV, alongU}
+use Rattle.grids.specs.Grids.{GridResult, rowAim, columnAim, besideRows, afterRows, alongV, alongU}
 use Rattle.checks.specs.GridChecks.{GridLent, GridShaped, GridRoomy, gridRoomOf, countsVerdict}
-
--- what the rows are fitted to along v, and the columns along u
-unfoldable pub rowAim : SurfaceCall → Aim
-rowAim (Approximate uCount vCount) = Count vCount
-rowAim (ApproximateWithin t) = Within (rowShare ⊗ t)
-
-unfoldable pub columnAim : SurfaceCall → Aim
-columnAim (Approximate uCount vCount) = Count uCount
-columnAim (ApproximateWithin t) = Within t
-
--- the columns' fit beside the rows', and before it the rows'
-unfoldable pub besideRows : Marked → Result → GridResult
-besideRows v (refused c) = gridRefused c
-besideRows v (accepted u) = gridAccepted u v
-
-unfoldable pub afterRows : Result → (Marked → Result) → GridResult
-afterRows (refused c) next = gridRefused c
-afterRows (accepted v) next = besideRows v (next v)
 
 -- The rows' regions: u's parameters, v's parameters, and then the rest one after the other.
 abbrev pub rowsJob : Shape → Job
@@ -131,13 +110,13 @@ countOf j x = x .flat - j .table .degree - 1
 abbrev pub knotsOf : Job → Standing → List Float → List Float
 knotsOf j x work = part (j .flat) (j .flat + (countOf j x + j .table .degree + 1)) work
 
--- the columns' poles, and where they end
-abbrev pub placesOf : Job → Standing → Job → Standing → ℕ
-placesOf rows x columns y = 3 * (countOf rows x * countOf columns y)
+-- how many places the columns' poles take
+abbrev pub polePlaces : Job → Standing → Job → Standing → ℕ
+polePlaces rows x columns y = 3 * (countOf rows x * countOf columns y)
 
--- a fit's answer, with so many distinct knots
-abbrev pub fitIn : Job → Standing → List Float → Fit
-fitIn j x work = record { mark = x .mark; poles = countOf j x; knots = distinctKnots (knotsOf j x work); unreadable = x .unreadable }
+-- what is answered of one direction's fit
+abbrev pub directionFit : Job → Standing → List Float → Fit
+directionFit j x work = record { mark = x .mark; poles = countOf j x; knots = distinctKnots (knotsOf j x work); unreadable = x .unreadable }
 
 -- both fits stand in the work, with room for what is handed out
 pub record HasBoth (rows : Job) (x : Standing) (columns : Job) (y : Standing) (work poles uflat uknots : List Float) (umults : List ℕ) (vflat vknots : List Float) (vmults : List ℕ) : Type 0 where
@@ -145,17 +124,17 @@ pub record HasBoth (rows : Job) (x : Standing) (columns : Job) (y : Standing) (w
   pub v-least : rows .table .degree + 1 ≤ x .flat
   pub u-few : countOf columns y ≤ 64
   pub v-few : countOf rows x ≤ 64
-  pub poles-in : columns .poles + placesOf rows x columns y ≤ length work
-  pub for-poles : placesOf rows x columns y ≤ length poles
+  pub poles-in : columns .poles + polePlaces rows x columns y ≤ length work
+  pub for-poles : polePlaces rows x columns y ≤ length poles
   pub u-knots : HasKnotsOut (columns .flat) (countOf columns y) (columns .table .degree) work uflat uknots umults
   pub v-knots : HasKnotsOut (rows .flat) (countOf rows x) (rows .table .degree) work vflat vknots vmults
 
 -- what is handed out of them
 pub record HandsBoth (rows : Job) (x : Standing) (columns : Job) (y : Standing) (work poles poles′ uflat uflat′ uknots uknots′ : List Float) (umults umults′ : List ℕ)
     (vflat vflat′ vknots vknots′ : List Float) (vmults vmults′ : List ℕ) (r : GridAnswer) : Type 0 where
-  pub answer : r ≡ Fitted (record { u = fitIn columns y work; v = fitIn rows x work })
+  pub answer : r ≡ Fitted (record { u = directionFit columns y work; v = directionFit rows x work })
   pub surface :
-      poles′ ≡ laid 0 (placesOf rows x columns y)
-      (at (transposed (countOf rows x) (countOf columns y) (part (columns .poles) (columns .poles + placesOf rows x columns y) work))) poles
+      poles′ ≡ laid 0 (polePlaces rows x columns y)
+      (at (transposed (countOf rows x) (countOf columns y) (part (columns .poles) (columns .poles + polePlaces rows x columns y) work))) poles
   pub u-knots : HandedKnots (knotsOf columns y work) uflat uflat′ uknots uknots′ umults umults′ (distinctKnots (knotsOf columns y work))
   pub v-knots : HandedKnots (knotsOf rows x work) vflat vflat′ vknots vknots′ vmults vmults′ (distinctKnots (knotsOf rows x work))

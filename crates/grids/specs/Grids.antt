@@ -9,7 +9,7 @@ use lib.Ieee.{Float, binary64, ofBits}
 use Rattle.places.specs.Places.{laid}
 use Rattle.geometry.specs.Doubles.{_⊗_, nought, at}
 use Rattle.bspline.specs.declared.Refusal.{Refusal}
-use Rattle.bspline.specs.declared.Refusal.the-variants.{ConfusedPoints, PoleCountMismatch}
+use Rattle.bspline.specs.declared.Refusal.the-variants.{ConfusedPoints}
 use Rattle.bspline.specs.declared.Verdict.{Verdict}
 use Rattle.bspline.specs.declared.Verdict.the-variants.{Pass, Stop}
 use Rattle.bspline.specs.Refusals.{numberOf}
@@ -19,12 +19,15 @@ use Rattle.tables.specs.BasisTable.{basisTable}
 use Rattle.tables.specs.Deviations.{gridDistances}
 use Rattle.tables.specs.Directions.{Direction, rowPoint, columnPoint, gridRows, gridColumns, transposed}
 use Rattle.fitting.specs.declared.Mark.the-variants.{Refined, Spread}
-use Rattle.fitting.specs.Within.{Candidate, Marked, chosen, poleCount, fitOnSpread, fitWithinFewest, passesOnSpread}
+use Rattle.fitting.specs.Within.{Candidate, Marked, poleCount, fitWithinFewest, passesOnSpread}
 use Rattle.fitting.specs.Marks.{unmarked, fitOf}
 use Rattle.fitting.specs.Tolerance.{NoneAbove, Fails, paramsOr}
 use Rattle.checks.specs.GridChecks.{Grid, GridLent, gridRoomOf, gridChecks, countsVerdict}
 use Rattle.checks.specs.LadderChecks.{cleared}
 use Rattle.checks.specs.declared.Shape.{Shape}
+use Rattle.checks.specs.declared.Aim.{Aim}
+use Rattle.checks.specs.declared.Aim.the-variants.{Count, Within}
+use Rattle.making.specs.Results.{Result, refused, accepted, fitTo}
 use Rattle.grids.specs.declared.GridFit.{GridFit}
 use Rattle.grids.specs.declared.GridAnswer.{GridAnswer}
 use Rattle.grids.specs.declared.GridAnswer.the-variants.{Fitted, Refused}
@@ -53,28 +56,37 @@ unfoldable pub alongU : List Float → Shape → List Float → List Float → C
 alongU s h uParams vParams v =
     gridColumns s (basisTable (v .flat) (h .v) vParams) (poleCount (h .v) (v .flat)) (v .poles) (h .u) uParams
 
--- with chosen pole counts: spread knots and least squares along v, then along u
-unfoldable pub chosenU : Marked → Option Candidate → GridResult
-chosenU v none = gridRefused PoleCountMismatch
-chosenU v (some u) = gridAccepted (chosen u) v
-
-unfoldable pub chosenV : Grid → ℕ → List Float → List Float → Option Candidate → GridResult
-chosenV g uCount uParams vParams none = gridRefused PoleCountMismatch
-chosenV g uCount uParams vParams (some v) = chosenU (chosen v) (fitOnSpread (alongU (g .points) (g .shape) uParams vParams v) uCount)
-
--- within a tolerance: the rows within 0.8 of it along v, then the whole grid within it along u
+-- the rows are fitted within 0.8 of a tolerance
 abbrev pub rowShare : Float
 rowShare = ofBits binary64 0x3fe9_9999_9999_999a
 
+-- what the rows are fitted to along v, and the columns along u
+unfoldable pub rowAim : SurfaceCall → Aim
+rowAim (Approximate uCount vCount) = Count vCount
+rowAim (ApproximateWithin t) = Within (rowShare ⊗ t)
+
+unfoldable pub columnAim : SurfaceCall → Aim
+columnAim (Approximate uCount vCount) = Count uCount
+columnAim (ApproximateWithin t) = Within t
+
+-- the columns' fit beside the rows', and before it the rows'
+unfoldable pub besideRows : Marked → Result → GridResult
+besideRows v (refused c) = gridRefused c
+besideRows v (accepted u) = gridAccepted u v
+
+unfoldable pub afterRows : Result → (Marked → Result) → GridResult
+afterRows (refused c) next = gridRefused c
+afterRows (accepted v) next = besideRows v (next v)
+
+-- the two calls, on a grid with its parameters along u and along v: the rows along v, then the columns of the row poles along u
+unfoldable pub fitGridBy : SurfaceCall → Grid → List Float → List Float → GridResult
+fitGridBy call g uParams vParams =
+    afterRows (fitTo (rowAim call) (alongV (g .points) (g .shape) vParams))
+    (λ v. fitTo (columnAim call) (alongU (g .points) (g .shape) uParams vParams (unmarked v)))
+
+-- the rows' fit within a tolerance
 unfoldable pub rowsWithin : Grid → Float → List Float → Marked
 rowsWithin g t vParams = fitWithinFewest (alongV (g .points) (g .shape) vParams) (rowShare ⊗ t)
-
--- the two calls, on a grid with its parameters along u and along v
-unfoldable pub fitGridBy : SurfaceCall → Grid → List Float → List Float → GridResult
-fitGridBy (Approximate uCount vCount) g uParams vParams = chosenV g uCount uParams vParams (fitOnSpread (alongV (g .points) (g .shape) vParams) vCount)
-fitGridBy (ApproximateWithin t) g uParams vParams =
-    let v = rowsWithin g t vParams in
-    gridAccepted (fitWithinFewest (alongU (g .points) (g .shape) uParams vParams (unmarked v)) t) v
 
 -- checks, and then the rest
 unfoldable pub gridChecked : Verdict → GridResult → GridResult
@@ -162,7 +174,7 @@ module _ (g : Grid) (t : Float) where
     pub refined-within : (f : GridFit) (x : Float) → r ≡ Fitted f → f .u .mark ≡ Refined x → NoneAbove t (gridHandedDistances f l′)
     pub spread-within : (f : GridFit) (x : Float) → r ≡ Fitted f → f .u .mark ≡ Spread x → NoneAbove t (gridHandedDistances f l′)
     pub spread-passes : (f : GridFit) (x : Float) → r ≡ Fitted f → f .u .mark ≡ Spread x → passesOnSpread uDirection t (f .u .poles) ≡ true
-    pub spread-least : (f : GridFit) (x : Float) → r ≡ Fitted f → f .u .mark ≡ Spread x → Fails uDirection t (f .u .poles - 1)
+    pub one-below-fails : (f : GridFit) (x : Float) → r ≡ Fitted f → f .u .mark ≡ Spread x → Fails uDirection t (f .u .poles - 1)
 
 -- ---- the contracts
 

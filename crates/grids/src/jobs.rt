@@ -1,7 +1,8 @@
 // What each direction of a grid is fitted to, and the regions of the lent slices that it is fitted in.
 ghost use mathlib.Core.Path.{_≡_};
 ghost use Prim.Native.Nat.{_≤_};
-ghost use Rattle.grids.specs.GridRuns.{rowAim, columnAim, rowsJob, columnsJob};
+ghost use Rattle.grids.specs.Grids.{rowAim, columnAim};
+ghost use Rattle.grids.specs.GridRuns.{rowsJob, columnsJob};
 use checks::Aim;
 use checks::Shape;
 use checks::SurfaceCall;

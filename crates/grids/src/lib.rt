@@ -12,6 +12,7 @@ pub struct GridFit {
     pub v: Fit,
 }
 
+// What a grid call answers, in the same way as a ladder's.
 pub enum GridAnswer {
     Fitted(GridFit),
     Refused(Refusal),

@@ -1,12 +1,12 @@
 // The grid calls.
-ghost use Rattle.checks.specs.declared.SurfaceCall.the-variants.{Approximate, ApproximateWithin};
+ghost use Rattle.checks.specs.declared.SurfaceCall.the-variants.{Approximate};
 ghost use Rattle.checks.specs.GridChecks.{gridOf, gridLent};
-ghost use Rattle.telling.specs.Told.{spacingOf};
-ghost use Rattle.telling.specs.ToldGrid.{shapeOf, ToldGrid};
+ghost use Rattle.knots.specs.Parameters.{spacingOf};
+ghost use Rattle.telling.specs.ToldGrid.{shapeOf, ToldGrid, ToldGridWithin};
 use checks::Shape;
 use checks::SurfaceCall;
+use knots::spacing_of;
 use telling::grid::call_grid;
-use telling::spacing_of;
 
 // Least squares with chosen pole counts along u and v.
 #[no_mangle]
@@ -84,7 +84,7 @@ pub extern "C" fn nigorzai_approximate_grid_within(
     largest: &mut [f64],
     counts: &mut [usize],
 ) -> u32
-    ensures { λ r. ⌜ ToldGrid (ApproximateWithin tolerance) (gridOf (now (points .entry)) (shapeOf rows cols udegree vdegree) (spacingOf spacing))
+    ensures { λ r. ⌜ ToldGridWithin (gridOf (now (points .entry)) (shapeOf rows cols udegree vdegree) (spacingOf spacing)) tolerance
         (gridLent (now (poles .entry)) (now (uflat .entry)) (now (uknots .entry)) (now (umults .entry)) (now (vflat .entry)) (now (vknots .entry)) (now (vmults .entry)) (now (work .entry)) (now (index .entry)))
         (gridLent (now (poles .exit)) (now (uflat .exit)) (now (uknots .exit)) (now (umults .exit)) (now (vflat .exit)) (now (vknots .exit)) (now (vmults .exit)) (now (work .exit)) (now (index .exit)))
         (now (largest .entry)) (now (largest .exit)) (now (counts .entry)) (now (counts .exit)) r ⌝ }

@@ -1,10 +1,11 @@
 // The ladder calls.
-ghost use Rattle.checks.specs.declared.Call.the-variants.{Interpolate, Approximate, ApproximateWithin, SearchSpread};
+ghost use Rattle.checks.specs.declared.Call.the-variants.{Interpolate, Approximate};
 ghost use Rattle.checks.specs.LadderChecks.{lent};
-ghost use Rattle.telling.specs.Told.{spacingOf, Told};
+ghost use Rattle.knots.specs.Parameters.{spacingOf};
+ghost use Rattle.telling.specs.Told.{Told, ToldWithin, ToldSpread};
 use checks::Call;
+use knots::spacing_of;
 use telling::ladder::call_ladder;
-use telling::spacing_of;
 
 // The curve through the points, with as many poles.
 #[no_mangle]
@@ -97,7 +98,7 @@ pub extern "C" fn nigorzai_approximate_within(
     largest: &mut [f64],
     counts: &mut [usize],
 ) -> u32
-    ensures { λ r. ⌜ Told (ApproximateWithin tolerance) (now (points .entry)) degree (spacingOf spacing)
+    ensures { λ r. ⌜ ToldWithin (now (points .entry)) degree tolerance (spacingOf spacing)
         (lent (now (poles .entry)) (now (flat .entry)) (now (knots .entry)) (now (mults .entry)) (now (work .entry)) (now (index .entry)))
         (lent (now (poles .exit)) (now (flat .exit)) (now (knots .exit)) (now (mults .exit)) (now (work .exit)) (now (index .exit)))
         (now (largest .entry)) (now (largest .exit)) (now (counts .entry)) (now (counts .exit)) r ⌝ }
@@ -135,7 +136,7 @@ pub extern "C" fn nigorzai_search_spread(
     largest: &mut [f64],
     counts: &mut [usize],
 ) -> u32
-    ensures { λ r. ⌜ Told (SearchSpread tolerance) (now (points .entry)) degree (spacingOf spacing)
+    ensures { λ r. ⌜ ToldSpread (now (points .entry)) degree tolerance (spacingOf spacing)
         (lent (now (poles .entry)) (now (flat .entry)) (now (knots .entry)) (now (mults .entry)) (now (work .entry)) (now (index .entry)))
         (lent (now (poles .exit)) (now (flat .exit)) (now (knots .exit)) (now (mults .exit)) (now (work .exit)) (now (index .exit)))
         (now (largest .entry)) (now (largest .exit)) (now (counts .entry)) (now (counts .exit)) r ⌝ }

@@ -14,8 +14,7 @@ use Rattle.places.specs.Regions.{part, splice}
 use Rattle.places.proofs.PlaceLaws.{length-listOf, laid-none, laid-next, laid-join, laid-below, part-before-laid, laid-order, laid-region}
 use Rattle.places.proofs.RegionLaws.{getD-part, length-part}
 use Rattle.geometry.specs.Doubles.{_⊕_, _⊖_, _⊗_, _⊘_, nought, one, double, wholePart, at, sumBelow}
-use Rattle.knots.specs.Knots.{clampedKnots, bezierKnots, carried, averagedKnot, averagedKnots, spreadKnot, approximationKnots}
-use Rattle.knots.specs.Calls.{betweenPlaces}
+use Rattle.knots.specs.Knots.{clampedKnots, bezierKnots, carried, averagedKnot, averagedKnots, betweenPlaces, spreadKnot, approximationKnots}
 
 -- ---- clamped knots
 

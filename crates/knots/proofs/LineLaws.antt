@@ -1,25 +1,21 @@
 -- The lines of a ladder and of a grid: their points, and the parameters that depend on nothing else. Assumes nothing.
 use mathlib.Core.Path.{_≡_, ap, _∙_}
-use mathlib.Core.Bool.{Bool, true, false, cond, not, _||_}
+use mathlib.Core.Bool.{Bool, true, false, cond, not}
 use mathlib.Core.List.{List}
 use mathlib.Core.Option.{Option, none, some}
 use Prim.Native.Nat.{ℕ, _+_, _-_, _*_, _^_, _<_, _≤_}
 use native.Mathlib.Omega.{arith}
-use lib.Dec.{eqb}
 use lib.ListN.{length, take}
-use lib.Ieee.{Float, le}
+use lib.Ieee.{Float}
 use borrow.Author.Tests.{not-true, not-false}
-use Rattle.places.specs.Places.{someBelow}
 use Rattle.places.proofs.LoopLaws.{each-cong}
 use Rattle.places.proofs.PlaceLaws.{listOf-same, row-in}
 use Rattle.geometry.specs.declared.Point.{Point}
-use Rattle.geometry.specs.Doubles.{_⊗_, _⊘_, nought, one, double, at}
 use Rattle.geometry.specs.Points.{pointAt}
 use Rattle.knots.specs.declared.Spacing.{Spacing}
-use Rattle.knots.specs.Parameters.{confusion, chords, stepSums, fromZeroToOne, pointParameters, Lines, addLine, addedLines, sharedParameters}
+use Rattle.knots.specs.Parameters.{chords, pointParameters, Lines, addLine, addedLines, sharedParameters}
 use Rattle.knots.specs.Lines.{lineOf, linesOf}
 use Rattle.knots.specs.Calls.{HasLines, Found}
-use Rattle.knots.proofs.ParameterLaws.{unless-some, length-zero-to-one, zero-to-one-ends}
 
 -- ---- only the points below the count matter
 
@@ -60,31 +56,6 @@ module _ (rows cols : ℕ) (s : List Float) (r : 2 ≤ rows) (c : 2 ≤ cols) (l
 
   pub columns-in : cols ≤ 2 ^ 53 → HasLines s cols 1 rows cols
   columns-in h = record { two = r; few = h; last = omega (arith, row-in (rows - 1) rows cols (omega arith)) }
-
--- ---- n parameters, the first 0 and the last 1
-
-abbrev pub FromZeroToOne : ℕ → List Float → Type 0
-FromZeroToOne n params = (length params ≡ n) × (at params 0 ≡ nought) × (at params (n - 1) ≡ one)
-
-ends : (n : ℕ) (g : ℕ → Float) (b : Bool) (params : List Float) → 2 ≤ n → cond b none (some (fromZeroToOne n g)) ≡ some params → FromZeroToOne n params
-ends n g b params h e =
-    let same = unless-some b (fromZeroToOne n g) params e in
-    let z = zero-to-one-ends n g h in
-    rw (← same) (length-zero-to-one n g, z .0, z .1)
-
-pub parameters-ends : (v : Spacing) (n : ℕ) (point : ℕ → Point) (params : List Float) → 2 ≤ n → pointParameters v n point ≡ some params → FromZeroToOne n params
-unfolding pointParameters
-parameters-ends v n point params h e =
-    let ds : List Float = chords n point in
-    let sums : List Float = stepSums v n ds in
-    ends n (λ k. at sums k ⊗ (one ⊘ at sums (n - 1))) (someBelow (n - 1) (λ k. le (at ds k) confusion)) params h e
-
-pub shared-ends : (v : Spacing) (lines n : ℕ) (point : ℕ → ℕ → Point) (params : List Float) → 2 ≤ n → sharedParameters v lines n point ≡ some params → FromZeroToOne n params
-unfolding sharedParameters
-shared-ends v lines n point params h e =
-    let added : Lines = addedLines v lines n point in
-    let g : ℕ → Float = λ k. at (added .sums) k ⊗ (one ⊘ double (added .used)) in
-    ends n g (eqb (added .used) 0 || someBelow (n - 1) (λ k. le (at (fromZeroToOne n g) (k + 1)) (at (fromZeroToOne n g) k))) params h e
 
 -- ---- what a spacing that answers has found
 

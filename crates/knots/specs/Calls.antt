@@ -8,7 +8,7 @@ use lib.ListN.{length, take, drop}
 use lib.Ieee.{Float, le}
 use Rattle.places.specs.Places.{laid, someBelow}
 use Rattle.geometry.specs.declared.Point.{Point}
-use Rattle.geometry.specs.Doubles.{_⊕_, _⊖_, _⊗_, one, double, wholePart, at, sumBelow}
+use Rattle.geometry.specs.Doubles.{at, sumBelow}
 use Rattle.knots.specs.declared.Spacing.{Spacing}
 use Rattle.knots.specs.declared.parameters.LineSums.{LineSums}
 use Rattle.knots.specs.Parameters.{confusion, chords, stepSums, Lines}
@@ -54,13 +54,6 @@ pub record KnotRegions (work : List Float) (params n m p flat : ℕ) : Type 0 wh
   pub most : m ≤ n
   pub behind : params + n ≤ flat
   pub room : flat + m + p + 1 ≤ length work
-
--- params between the two places around a fractional index
-unfoldable pub betweenPlaces : List Float → Float → Float
-betweenPlaces params index =
-    let i = wholePart index in
-    let fraction = index ⊖ double i in
-    (one ⊖ fraction) ⊗ at params i ⊕ fraction ⊗ at params (i + 1)
 
 -- ---- runs
 

@@ -6,8 +6,8 @@ ghost use lib.ListN.{length};
 ghost use Rattle.places.specs.Places.{laid};
 ghost use Rattle.places.specs.Regions.{part, splice};
 ghost use Rattle.geometry.specs.Doubles.{nought, one, at, sumBelow};
-ghost use Rattle.knots.specs.Knots.{averagedKnot, averagedKnots, spreadKnot, approximationKnots, bezierKnots};
-ghost use Rattle.knots.specs.Calls.{KnotRegions, betweenPlaces};
+ghost use Rattle.knots.specs.Knots.{averagedKnot, averagedKnots, betweenPlaces, spreadKnot, approximationKnots, bezierKnots};
+ghost use Rattle.knots.specs.Calls.{KnotRegions};
 
 // The first and the last degree + 1 flat knots, 0 and 1; those between stay.
 fn clamp_ends(work: &mut [f64], poles: usize, degree: usize, flat: usize)

@@ -33,7 +33,7 @@ use Rattle.checks.specs.declared.Call.{Call}
 use Rattle.checks.specs.declared.Call.the-variants.{ApproximateWithin, SearchSpread}
 use Rattle.checks.specs.LadderChecks.{Lent, pointCount, countVerdict, ladderChecks, roomOf, Roomy}
 use Rattle.making.specs.Results.{Result, accepted, fitBy}
-use Rattle.ladders.specs.Ladders.{ladderFit, fitWith, checked, resultOf, answerOf, handed, handedFlat, handedPoles, ladderOf, LadderCall, LadderKept, ApproximatesWithin, SearchesSpread, SpreadNeverMorePoles}
+use Rattle.ladders.specs.Ladders.{ladderFit, fitWith, checked, resultOf, answerOf, handed, handedFlat, handedPoles, ladderOf, HandsOut, LadderCall, LadderKept, ApproximatesWithin, SearchesSpread, SpreadNeverMorePoles}
 use Rattle.fitting.proofs.ToleranceLaws.{Lawful, ladder-lawful, alone-kept, within-kept, polesOf, no-more, spread-again}
 use Rattle.making.proofs.HandedLaws.{From, taken, refined-from, refined-mark, spread-mark, interpolated-mark, alone-cases}
 
@@ -51,7 +51,7 @@ record LadderKeptBy (d : Direction) (distances : Fit → List Float) (refinement
   refined-within : (f : Fit) (x : Float) → r ≡ Fitted f → f .mark ≡ Refined x → NoneAbove t (distances f)
   spread-within : (f : Fit) (x : Float) → r ≡ Fitted f → f .mark ≡ Spread x → NoneAbove t (distances f)
   spread-passes : (f : Fit) (x : Float) → r ≡ Fitted f → f .mark ≡ Spread x → passesOnSpread d t (f .poles) ≡ true
-  spread-least : (f : Fit) (x : Float) → r ≡ Fitted f → f .mark ≡ Spread x → Fails d t (f .poles - 1)
+  one-below-fails : (f : Fit) (x : Float) → r ≡ Fitted f → f .mark ≡ Spread x → Fails d t (f .poles - 1)
   interpolated-stuck : (f : Fit) (x : Float) → r ≡ Fitted f → f .mark ≡ Interpolated x → refinement ≡ none
   interpolated-last : (f : Fit) (x : Float) → r ≡ Fitted f → f .mark ≡ Interpolated x → Fails d t (n - 1)
 
@@ -133,11 +133,11 @@ module _ (v : Spacing) (s : List Float) (degree : ℕ) (l l′ : Lent) (r : Answ
               let c = spread-mark (fit d) x (ap (λ (g : Fit). g .mark) q ∙ m) in
               let p : f .poles ≡ c .0 = ap (λ (g : Fit). g .poles) (sym q) ∙ ap (λ (a : Marked). poleCount degree (unmarked a .flat)) (c .1 .1) ∙ keeps .from-spread d (ladder-lawful s degree params) (c .0) (c .1 .0) (c .1 .1) .1 in
               rw p (k .spread-passes (c .0) (c .1 .0) (c .1 .1));
-          spread-least = λ f x e m.
+          one-below-fails = λ f x e m.
               let q : fitOf degree (fit d) ≡ f = cc in
               let c = spread-mark (fit d) x (ap (λ (g : Fit). g .mark) q ∙ m) in
               let p : f .poles ≡ c .0 = ap (λ (g : Fit). g .poles) (sym q) ∙ ap (λ (a : Marked). poleCount degree (unmarked a .flat)) (c .1 .1) ∙ keeps .from-spread d (ladder-lawful s degree params) (c .0) (c .1 .0) (c .1 .1) .1 in
-              rw p (k .spread-least (c .0) (c .1 .0) (c .1 .1));
+              rw p (k .one-below-fails (c .0) (c .1 .0) (c .1 .1));
           interpolated-stuck = λ f x e m.
               let q : fitOf degree (fit d) ≡ f = cc in
               let c = interpolated-mark (fit d) x (ap (λ (g : Fit). g .mark) q ∙ m) in
@@ -162,7 +162,7 @@ module _ (v : Spacing) (s : List Float) (degree : ℕ) (l l′ : Lent) (r : Answ
         refined-within = λ f x e m. rw p (k .refined-within f x e m);
         spread-within = λ f x e m. rw p (k .spread-within f x e m);
         spread-passes = λ f x e m. rw q (k .spread-passes f x e m);
-        spread-least = λ f x e m. rw q (k .spread-least f x e m);
+        one-below-fails = λ f x e m. rw q (k .one-below-fails f x e m);
         interpolated-stuck = λ f x e m. rw q (k .interpolated-stuck f x e m);
         interpolated-last = λ f x e m. rw q (k .interpolated-last f x e m);
       }
@@ -173,17 +173,18 @@ module _ (v : Spacing) (s : List Float) (degree : ℕ) (l l′ : Lent) (r : Answ
         refined-within = λ f x q m. let z : _≡_ {A = ℕ} 0 1 = cc in absurd (omega arith);
         spread-within = λ f x q m. let z : _≡_ {A = ℕ} 0 1 = cc in absurd (omega arith);
         spread-passes = λ f x q m. let z : _≡_ {A = ℕ} 0 1 = cc in absurd (omega arith);
-        spread-least = λ f x q m. let z : _≡_ {A = ℕ} 0 1 = cc in absurd (omega arith);
+        one-below-fails = λ f x q m. let z : _≡_ {A = ℕ} 0 1 = cc in absurd (omega arith);
         interpolated-stuck = λ f x q m. let z : _≡_ {A = ℕ} 0 1 = cc in absurd (omega arith);
         interpolated-last = λ f x q m. let z : _≡_ {A = ℕ} 0 1 = cc in absurd (omega arith);
       }
 
-  -- a call that keeps the rest of its contract keeps demand 3
-  pub kept-by-call : (call : Call) → ((d : Direction) → fitBy call d ≡ accepted (fit d)) → LadderCall call s degree v l l′ r → LadderKept v s degree t (refinement (ladderOf v s degree)) l′ r
+  -- who hands a call's result out keeps demand 3. The slices that the call was judged by are m: those that were lent, or none.
+  pub kept-by-hands : (call : Call) (m : Lent) → ((d : Direction) → fitBy call d ≡ accepted (fit d)) → (ladderChecks call s degree m ≡ Pass → ladderChecks call s degree l ≡ Pass)
+      → HandsOut degree (resultOf call s degree v m) l l′ r → LadderKept v s degree t (refinement (ladderOf v s degree)) l′ r
   unfolding ladderFit resultOf
-  kept-by-call call by c = go (ladderChecks call s degree l) refl (pointParameters v (pointCount s) (pointAt s)) refl (c .hands .answer) (c .hands .flat) (c .hands .poles)
+  kept-by-hands call m by lends h = go (ladderChecks call s degree m) refl (pointParameters v (pointCount s) (pointAt s)) refl (h .answer) (h .flat) (h .poles)
     where
-      go : (w : Verdict) → ladderChecks call s degree l ≡ w → (o : Option (List Float)) → pointParameters v (pointCount s) (pointAt s) ≡ o
+      go : (w : Verdict) → ladderChecks call s degree m ≡ w → (o : Option (List Float)) → pointParameters v (pointCount s) (pointAt s) ≡ o
           → r ≡ answerOf degree (checked w (fitWith s degree (fitBy call) o))
           → l′ .flat ≡ handedFlat (checked w (fitWith s degree (fitBy call) o)) (l .flat)
           → l′ .poles ≡ handedPoles (checked w (fitWith s degree (fitBy call) o)) (l .poles)
@@ -191,7 +192,7 @@ module _ (v : Spacing) (s : List Float) (degree : ℕ) (l l′ : Lent) (r : Answ
       go (Stop c) e o p a f q = refused-kept c (stopped c (fitWith s degree (fitBy call) o) r degree a)
       go Pass e none p a f q = refused-kept _ (confused s degree (fitBy call) r a)
       go Pass e (some params) p a f q =
-          let g = checks-give call s degree l e in
+          let g = checks-give call s degree l (lends e) in
           accepted-kept params p (omega (arith, count-under call (pointCount s) degree (g .1) (g .0 .low))) (g .2) (accepted-answer call fit by s degree params r a) (accepted-flat call fit by s degree params (l′ .flat) (l .flat) f)
           (accepted-poles call fit by s degree params (l′ .poles) (l .poles) q)
 
@@ -242,15 +243,22 @@ keeps-within t =
     }
 
 -- Demand 3 needs no proof of the program: it follows from the call's equations.
-pub approximates-within : (s : List Float) (degree : ℕ) (t : Float) (v : Spacing) (l l′ : Lent) (r : Answer) → LadderCall (ApproximateWithin t) s degree v l l′ r → ApproximatesWithin s degree t v l l′ r
-unfolding fitBy
-approximates-within s degree t v l l′ r c =
-    record { call = c; kept = kept-by-call v s degree l l′ r t (λ d. fitWithRefinedKnots d t) (λ d. fitWithin d t) (keeps-within t) (ApproximateWithin t) (λ d. refl) c }
+module _ (s : List Float) (degree : ℕ) (t : Float) (v : Spacing) (l l′ : Lent) (r : Answer) where
+  pub within-handed : (m : Lent) → (ladderChecks (ApproximateWithin t) s degree m ≡ Pass → ladderChecks (ApproximateWithin t) s degree l ≡ Pass)
+      → HandsOut degree (resultOf (ApproximateWithin t) s degree v m) l l′ r → LadderKept v s degree t (fitWithRefinedKnots (ladderOf v s degree) t) l′ r
+  unfolding fitBy
+  within-handed m = kept-by-hands v s degree l l′ r t (λ d. fitWithRefinedKnots d t) (λ d. fitWithin d t) (keeps-within t) (ApproximateWithin t) m (λ d. refl)
 
-pub searches-spread : (s : List Float) (degree : ℕ) (t : Float) (v : Spacing) (l l′ : Lent) (r : Answer) → LadderCall (SearchSpread t) s degree v l l′ r → SearchesSpread s degree t v l l′ r
-unfolding fitBy
-searches-spread s degree t v l l′ r c =
-    record { call = c; kept = kept-by-call v s degree l l′ r t (λ d. none) (λ d. spreadAlone d t) (keeps-alone t) (SearchSpread t) (λ d. refl) c }
+  pub spread-handed : (m : Lent) → (ladderChecks (SearchSpread t) s degree m ≡ Pass → ladderChecks (SearchSpread t) s degree l ≡ Pass)
+      → HandsOut degree (resultOf (SearchSpread t) s degree v m) l l′ r → LadderKept v s degree t none l′ r
+  unfolding fitBy
+  spread-handed m = kept-by-hands v s degree l l′ r t (λ d. none) (λ d. spreadAlone d t) (keeps-alone t) (SearchSpread t) m (λ d. refl)
+
+  pub approximates-within : LadderCall (ApproximateWithin t) s degree v l l′ r → ApproximatesWithin s degree t v l l′ r
+  approximates-within c = record { call = c; kept = within-handed l (λ e. e) (c .hands) }
+
+  pub searches-spread : LadderCall (SearchSpread t) s degree v l l′ r → SearchesSpread s degree t v l l′ r
+  searches-spread c = record { call = c; kept = spread-handed l (λ e. e) (c .hands) }
 
 -- ---- two calls of the spread search alone
 spread-answer : (s : List Float) (degree : ℕ) (params : List Float) (t : Float) (r : Answer) → r ≡ answerOf degree (checked Pass (fitWith s degree (fitBy (SearchSpread t)) (some params))) → r ≡ Fitted (fitOf degree (spreadAlone (ladder s degree params) t))

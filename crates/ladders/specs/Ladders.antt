@@ -113,7 +113,7 @@ module _ (v : Spacing) (s : List Float) (degree : ℕ) where
     pub refined-within : (f : Fit) (x : Float) → r ≡ Fitted f → f .mark ≡ Refined x → NoneAbove t (handedDistances f l′)
     pub spread-within : (f : Fit) (x : Float) → r ≡ Fitted f → f .mark ≡ Spread x → NoneAbove t (handedDistances f l′)
     pub spread-passes : (f : Fit) (x : Float) → r ≡ Fitted f → f .mark ≡ Spread x → passesOnSpread (ladderOf v s degree) t (f .poles) ≡ true
-    pub spread-least : (f : Fit) (x : Float) → r ≡ Fitted f → f .mark ≡ Spread x → Fails (ladderOf v s degree) t (f .poles - 1)
+    pub one-below-fails : (f : Fit) (x : Float) → r ≡ Fitted f → f .mark ≡ Spread x → Fails (ladderOf v s degree) t (f .poles - 1)
     pub interpolated-stuck : (f : Fit) (x : Float) → r ≡ Fitted f → f .mark ≡ Interpolated x → refinement ≡ none
     pub interpolated-last : (f : Fit) (x : Float) → r ≡ Fitted f → f .mark ≡ Interpolated x → Fails (ladderOf v s degree) t (pointCount s - 1)
 

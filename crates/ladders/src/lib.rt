@@ -19,6 +19,7 @@ use making::Made;
 use tables::Data;
 use tables::Table;
 
+// What a ladder call answers: a fit's mark and counts, with its knots and poles in the lent slices, or the refusal.
 pub enum Answer {
     Fitted(Fit),
     Refused(Refusal),

@@ -7,8 +7,9 @@ use lib.Ieee.{Float, eq}
 use Rattle.places.specs.Loops.{each, down}
 use Rattle.geometry.specs.declared.Point.{Point}
 use Rattle.geometry.specs.Doubles.{_⊖_, _⊗_, _⊘_, nought, one}
-use Rattle.geometry.specs.Points.{pointAt, putPoint, lessScaled, scaled}
+use Rattle.geometry.specs.Points.{pointAt, putPoint, lessScaled}
 use Rattle.bands.specs.Bands.{entry, putEntry, reach}
+use Rattle.bands.specs.SolvedRow.{solvedRow}
 
 -- A[i][j] of a band of half-width h
 abbrev pub bandEntry : ℕ → List Float → ℕ → ℕ → Float
@@ -47,8 +48,7 @@ forwardStep h n band k poles = let q = pointAt poles k in each (k + 1) (reach h 
 
 -- U x = y, row i: from the points after i, which are x's already, and point i, which is y's
 unfoldable pub backBandPoint : ℕ → ℕ → List Float → List Float → ℕ → Point
-backBandPoint h n band poles i =
-    scaled (each (i + 1) (reach h n i) (λ j x. lessScaled x (bandEntry h band i j) (pointAt poles j)) (pointAt poles i)) (one ⊘ bandEntry h band i i)
+backBandPoint h n band poles i = solvedRow (2 * h + 1) h band poles i (i + 1) (reach h n i)
 
 -- row i put in its place
 unfoldable pub backBandRow : ℕ → ℕ → List Float → ℕ → List Float → List Float

@@ -5,10 +5,10 @@ ghost use lib.ListN.{length, set};
 ghost use Rattle.places.specs.Regions.{part, splice};
 ghost use Rattle.tables.specs.BasisTable.{basisTable};
 ghost use Rattle.solving.specs.LeastSquares.{leastSquares};
-ghost use Rattle.tables.specs.Deviations.{ladderDistances, rowDistances};
+ghost use Rattle.tables.specs.Deviations.{ladderDistances, rowDistances, pointDeviations, largestOverRows, largestOverColumns};
 ghost use Rattle.tables.specs.Layout.{tableIn, dataPoint, FillsTable, HasSquares, Squared, HasFit};
 ghost use Rattle.solving.specs.Through.{Interpolates, Interpolated};
-ghost use Rattle.tables.specs.Measures.{measured, HasGrid, LeavesSquares, pointDeviations, columnDeviations, rowDeviations, gridDistancesIn};
+ghost use Rattle.tables.specs.Measures.{measured, HasGrid, LeavesSquares, gridDistancesIn};
 ghost use Rattle.pieces.specs.Fits.{tableOf, dataOf};
 use tables::Data;
 use tables::Measured;
@@ -165,7 +165,7 @@ pub extern "C" fn pieces_row_deviations(
     requires { ⌜ HasFit (tableOf degree count firsts values) rows m poles out count (now work) (now index) × (3 * (rows * count) ≤ length (now points)) × (1 ≤ length (now most)) ⌝ }
     ensures { λ r. ⌜ r ≡ measured (rowDistances rows (tableIn (tableOf degree count firsts values) (now (work .entry)) (now (index .entry))) m (part poles (poles + 3 * (rows * m)) (now (work .entry))) (now (points .entry))) .unreadable ⌝ }
     ensures { λ _. ⌜ now (most .exit) ≡ set (now (most .entry)) 0 (measured (rowDistances rows (tableIn (tableOf degree count firsts values) (now (work .entry)) (now (index .entry))) m (part poles (poles + 3 * (rows * m)) (now (work .entry))) (now (points .entry))) .largest) ⌝ }
-    ensures { λ _. ⌜ LeavesSquares count out out (columnDeviations rows count) (rowDistances rows (tableIn (tableOf degree count firsts values) (now (work .entry)) (now (index .entry))) m (part poles (poles + 3 * (rows * m)) (now (work .entry))) (now (points .entry))) (now (work .entry)) (now (work .exit))
+    ensures { λ _. ⌜ LeavesSquares count out out (largestOverRows rows count) (rowDistances rows (tableIn (tableOf degree count firsts values) (now (work .entry)) (now (index .entry))) m (part poles (poles + 3 * (rows * m)) (now (work .entry))) (now (points .entry))) (now (work .entry)) (now (work .exit))
         (measured (rowDistances rows (tableIn (tableOf degree count firsts values) (now (work .entry)) (now (index .entry))) m (part poles (poles + 3 * (rows * m)) (now (work .entry))) (now (points .entry)))) ⌝ }
 {
     let table = Table {
@@ -212,7 +212,7 @@ pub extern "C" fn pieces_grid_deviations(
     requires { ⌜ HasGrid (tableOf pu nu fu wu) (tableOf pv nv fv wv) columns m poles curve out (now points) (now work) (now index) × (1 ≤ length (now most)) ⌝ }
     ensures { λ r. ⌜ r ≡ measured (gridDistancesIn (tableOf pu nu fu wu) (tableOf pv nv fv wv) columns m poles (now (points .entry)) (now (work .entry)) (now (index .entry))) .unreadable ⌝ }
     ensures { λ _. ⌜ now (most .exit) ≡ set (now (most .entry)) 0 (measured (gridDistancesIn (tableOf pu nu fu wu) (tableOf pv nv fv wv) columns m poles (now (points .entry)) (now (work .entry)) (now (index .entry))) .largest) ⌝ }
-    ensures { λ _. ⌜ LeavesSquares nu curve out (rowDeviations nu nv) (gridDistancesIn (tableOf pu nu fu wu) (tableOf pv nv fv wv) columns m poles (now (points .entry)) (now (work .entry)) (now (index .entry))) (now (work .entry)) (now (work .exit))
+    ensures { λ _. ⌜ LeavesSquares nu curve out (largestOverColumns nu nv) (gridDistancesIn (tableOf pu nu fu wu) (tableOf pv nv fv wv) columns m poles (now (points .entry)) (now (work .entry)) (now (index .entry))) (now (work .entry)) (now (work .exit))
         (measured (gridDistancesIn (tableOf pu nu fu wu) (tableOf pv nv fv wv) columns m poles (now (points .entry)) (now (work .entry)) (now (index .entry)))) ⌝ }
 {
     let u = Table {

@@ -6,8 +6,7 @@ use mathlib.Core.List.{List}
 use lib.Dec.{eqb, ltb}
 use lib.ListN.{length, getD}
 use lib.Ieee.{Float, binary64, ofBits}
-use Rattle.knots.specs.declared.Spacing.{Spacing}
-use Rattle.knots.specs.declared.Spacing.the-variants.{Chordal, Centripetal}
+use Rattle.knots.specs.Parameters.{spacingOf}
 use Rattle.checks.specs.declared.Call.{Call}
 use Rattle.checks.specs.declared.Call.the-variants.{Interpolate, Approximate, ApproximateWithin, SearchSpread}
 use Rattle.replay_list.specs.declared.cases.Case.{Case}
@@ -16,10 +15,6 @@ use Rattle.replay_list.specs.declared.cases.Found.the-variants as found
 use Rattle.replay_list.specs.declared.answers.ListedFit.{ListedFit}
 use Rattle.replay_list.specs.declared.answers.Listed.{Listed}
 use Rattle.replay_list.specs.declared.answers.Listed.the-variants.{Refused, Fitted, Damaged}
-
--- 0 is chordal, any other number centripetal
-abbrev pub spacingOf : ℕ → Spacing
-spacingOf k = cond (eqb k 0) Chordal Centripetal
 
 -- the call of an entry's number, with a pole count and the word of a tolerance
 abbrev pub callOf : ℕ → ℕ → ℕ → Call
@@ -73,8 +68,8 @@ fitAt w a degree = record {
 }
 
 -- its values stand among n words; at most degree 25, 1,024 poles and 1,050 knots
-abbrev pub fitIn : ℕ → ℕ → ListedFit → Listed
-fitIn n degree f =
+abbrev pub listedFit : ℕ → ℕ → ListedFit → Listed
+listedFit n degree f =
     cond (ltb 25 degree) Damaged
     (cond (ltb 1024 (f .poles)) Damaged
     (cond (ltb 1050 (f .knots)) Damaged
@@ -85,12 +80,12 @@ unfoldable pub listedAt : List ℕ → ℕ → ℕ → Listed
 listedAt w a degree =
     cond (ltb a (length w))
     (cond (eqb (getD w a 0) 0)
-    (cond (ltb (length w - a) 6) Damaged (fitIn (length w) degree (fitAt w a degree)))
+    (cond (ltb (length w - a) 6) Damaged (listedFit (length w) degree (fitAt w a degree)))
     (Refused (getD w a 0)))
     Damaged
 
 pub record Within (n degree : ℕ) (f : ListedFit) : Type 0 where
-  pub low : degree ≤ 25
+  pub high : degree ≤ 25
   pub few : f .poles ≤ 1024
   pub knots : f .knots ≤ 1050
   pub values : f .values + (f .poles + degree + 1) + 2 * f .knots + 3 * f .poles ≤ n

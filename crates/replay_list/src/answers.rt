@@ -81,7 +81,7 @@ fn same_told(fit: Fit, listed: ListedFit) -> bool
     ensures { λ r. ⌜ r ≡ sameTold fit listed ⌝ }
 {
     let mark = fit.mark;
-    if mark.kind() as u64 != listed.mark {
+    if mark.number() as u64 != listed.mark {
         return false;
     }
     if card_text::to_word(mark.deviation()) != listed.largest {

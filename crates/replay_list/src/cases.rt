@@ -4,7 +4,7 @@ ghost use mathlib.Core.Path.{_≡_};
 ghost use Prim.Native.Nat.{_≤_, _<_};
 ghost use lib.ListN.{length};
 ghost use Rattle.places.specs.Places.{laid};
-ghost use Rattle.replay_list.specs.Listed.{callOf, spacingOf, FoundAt, Placed, givenAt, placeAt};
+ghost use Rattle.replay_list.specs.Listed.{callOf, FoundAt, Placed, givenAt, placeAt};
 use checks::Call;
 use knots::Spacing;
 
@@ -22,15 +22,6 @@ pub struct Case {
 pub enum Found {
     Here(Case),
     Damaged,
-}
-
-fn spacing_of(number: u64) -> Spacing
-    ensures { λ r. ⌜ r ≡ spacingOf number ⌝ }
-{
-    if number == 0 {
-        return Spacing::Chordal;
-    }
-    Spacing::Centripetal
 }
 
 // The call of an entry's number.
@@ -84,7 +75,7 @@ pub fn case_at(words: &[u64], start: usize) -> Found
     Found::Here(Case {
         call: call_of(entry, words[start + 3], words[start + 4]),
         degree: words[start + 1] as usize,
-        spacing: spacing_of(words[start + 2]),
+        spacing: knots::spacing_of(words[start + 2] as usize),
         count,
         given,
         shorter,

@@ -163,16 +163,6 @@ pub failed-narrower : (s : Search) (n : ℕ) → 1 ≤ s .step → nextOf s ≡ 
 failed-narrower s n p e = let b = try-between s n p e in omega (arith, b .0, b .1)
 
 -- what the arithmetic wants
-pub bounded-fitted : (s : Search) (n : ℕ) → nextOf s ≡ Try n → Bounded s → Bounded (fittedAt s n)
-bounded-fitted s n e h =
-    let b = try-between s n (h .rises) e in
-    record { rises = h .rises; apart = omega (arith, b .0); small = omega (arith, b .1, h .small) }
-
-pub bounded-failed : (s : Search) (n : ℕ) → nextOf s ≡ Try n → Bounded s → Bounded (failedAt s n)
-bounded-failed s n e h =
-    let b = try-between s n (h .rises) e in
-    record { rises = step-kept s n (h .rises); apart = omega (arith, b .1); small = h .small }
-
 module _ (passes : ℕ → Bool) (degree last : ℕ) where
   pub running-bounded : (s : Search) → last ≤ 1024 → Running passes degree last s → Bounded s
   running-bounded s k r =

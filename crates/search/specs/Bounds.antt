@@ -1,4 +1,4 @@
--- What the arithmetic of a search wants. It holds at the start, and after each try (proofs/SearchLaws, bounded-start, bounded-fitted, bounded-failed).
+-- What the arithmetic of a search wants. It holds in every state of a search (proofs/SearchLaws, running-bounded).
 use Prim.Native.Nat.{_≤_}
 use Rattle.search.specs.declared.Search.{Search}
 

@@ -25,9 +25,9 @@ use Rattle.lu.proofs.Lengths.{length-forward-step, length-back-band-row}
 use Rattle.tables.specs.declared.Table.{Table}
 use Rattle.tables.specs.declared.Data.{Data}
 use Rattle.tables.specs.BasisTable.{BasisTable, first, value}
-use Rattle.solving.specs.Interpolation.{putValue, interpolationMatrix, interpolatedLine, interpolation}
+use Rattle.solving.specs.Interpolation.{putValue, interpolationMatrix, interpolation, putWithin, lineThrough}
 use Rattle.tables.specs.Layout.{tableIn, dataPoint, Kept, HasData}
-use Rattle.solving.specs.Through.{putWithin, putColumn, lineThrough, HasMatrix, Interpolates, Interpolated}
+use Rattle.solving.specs.Through.{putColumn, HasMatrix, HasInterpolation, Interpolated}
 use Rattle.tables.proofs.KeptLaws.{kept-splice, kept-part, kept-point, kept-wider, kept-then, pole-below, has-table-kept}
 use Rattle.tables.proofs.ReadingLaws.{count-in, first-in, value-in}
 use Rattle.tables.proofs.SpliceLaws.{length-points, points-same}
@@ -210,10 +210,10 @@ module _ (t : Table) (w : List Float) (index : List ℕ) (i : t .firsts + t .cou
   interpolation-in : (lines : ℕ) (p : ℕ → ℕ → Point)
       → interpolation (tableIn t w index) lines p
       ≡ joined lines (λ r. lineThrough (t .degree - 1) (t .count) (factorBand (t .degree - 1) (t .count) (interpolationMatrix (tableIn t w index))) (p r))
-  unfolding interpolation interpolatedLine lineThrough tableIn
+  unfolding interpolation tableIn
   interpolation-in lines p = rw (count-in t w index i)
 
-pub interpolated : (t : Table) (d : Data) (band poles r : ℕ) (points : List Float) (index : List ℕ) (w w₁ w₂ w₃ : List Float) → Interpolates t d band poles points w index
+pub interpolated : (t : Table) (d : Data) (band poles r : ℕ) (points : List Float) (index : List ℕ) (w w₁ w₂ w₃ : List Float) → HasInterpolation t d band poles points w index
     → r ≡ d .lines
     → w₁ ≡ splice band (band + t .count * (2 * (t .degree - 1) + 1)) (interpolationMatrix (tableIn t w index)) w
     → w₂ ≡ splice band (band + t .count * (2 * (t .degree - 1) + 1)) (factorBand (t .degree - 1) (t .count) (part band (band + t .count * (2 * (t .degree - 1) + 1)) w₁)) w₁

@@ -1,33 +1,19 @@
 -- Interpolation as the program does it, step by step in regions of the work, and what its steps ask. Definitions only.
 use mathlib.Core.Path.{_≡_}
-use mathlib.Core.Bool.{cond, _&&_}
 use mathlib.Core.List.{List}
 use Prim.Native.Nat.{ℕ, _+_, _-_, _*_, _≤_, _<_}
-use lib.Dec.{leb}
 use lib.ListN.{length}
 use lib.Ieee.{Float}
 use Rattle.places.specs.Regions.{part}
-use Rattle.geometry.specs.declared.Point.{Point}
 use Rattle.geometry.specs.Doubles.{at}
-use Rattle.geometry.specs.Points.{putPoint, pointsOf}
-use Rattle.bands.specs.Bands.{putEntry}
-use Rattle.lu.specs.BandLu.{substituteBand}
 use Rattle.tables.specs.declared.Table.{Table}
 use Rattle.tables.specs.declared.Data.{Data}
-use Rattle.solving.specs.Interpolation.{interpolation}
+use Rattle.solving.specs.Interpolation.{putWithin, interpolation}
 use Rattle.tables.specs.Layout.{tableIn, dataPoint, Kept, HasTable, HasData}
-
--- x for A[j][column], unless that is outside the band
-unfoldable pub putWithin : ℕ → ℕ → ℕ → Float → List Float → List Float
-putWithin h j column x l = cond (leb j (column + h) && leb column (j + h)) (putEntry (2 * h + 1) h j column x l) l
 
 -- value a of a row's, the first of them in column `first`
 unfoldable pub putColumn : ℕ → ℕ → ℕ → List Float → ℕ → List Float → List Float
 putColumn h j first values a l = putWithin h j (first + a) (at values a) l
-
--- a line of n points with the factored matrix of half-bandwidth h
-unfoldable pub lineThrough : ℕ → ℕ → List Float → (ℕ → Point) → List Float
-lineThrough h n band point = putPoint (n - 1) (point (n - 1)) (putPoint 0 (point 0) (substituteBand h n band (pointsOf n point)))
 
 -- a table with one pole for each parameter, and the region of its matrix behind it
 pub record HasMatrix (t : Table) (band end : ℕ) (work : List Float) (index : List ℕ) : Type 0 where
@@ -37,14 +23,14 @@ pub record HasMatrix (t : Table) (band end : ℕ) (work : List Float) (index : L
   pub room : end ≤ length work
 
 -- line r of data, n points a line, and the region of its points behind it
-pub record HasLine (d : Data) (r n from to : ℕ) (points work : List Float) : Type 0 where
+pub record HasDataLine (d : Data) (r n from to : ℕ) (points work : List Float) : Type 0 where
   pub given : HasData d n from points work
   pub line : r < d .lines
   pub size : to ≡ from + 3 * n
   pub room : to ≤ length work
 
 -- table and data before the matrix, and the poles behind it
-pub record Interpolates (t : Table) (d : Data) (band poles : ℕ) (points work : List Float) (index : List ℕ) : Type 0 where
+pub record HasInterpolation (t : Table) (d : Data) (band poles : ℕ) (points work : List Float) (index : List ℕ) : Type 0 where
   pub table : HasTable t (t .count) work index
   pub given : HasData d (t .count) band points work
   pub values-before : t .values + t .count * (t .degree + 1) ≤ band

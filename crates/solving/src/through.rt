@@ -6,9 +6,9 @@ ghost use Rattle.places.specs.Loops.{each};
 ghost use Rattle.places.specs.Regions.{part, splice};
 ghost use Rattle.geometry.specs.Points.{pointsOf};
 ghost use Rattle.bands.specs.Shapes.{HasRow, Solvable};
-ghost use Rattle.solving.specs.Interpolation.{putValue, interpolationMatrix};
+ghost use Rattle.solving.specs.Interpolation.{putValue, interpolationMatrix, putWithin, lineThrough};
 ghost use Rattle.tables.specs.Layout.{tableIn, dataPoint};
-ghost use Rattle.solving.specs.Through.{putWithin, putColumn, lineThrough, HasMatrix, HasLine, Interpolates, Interpolated};
+ghost use Rattle.solving.specs.Through.{putColumn, HasMatrix, HasDataLine, HasInterpolation, Interpolated};
 use tables::Data;
 use tables::Table;
 
@@ -82,7 +82,7 @@ fn put_line(
     from: usize,
     to: usize,
 )
-    requires { ⌜ HasLine given r n from to (now points) (now work) ⌝ }
+    requires { ⌜ HasDataLine given r n from to (now points) (now work) ⌝ }
     ensures { λ _. ⌜ now (work .exit) ≡ splice from to (pointsOf n (dataPoint given (now (points .entry)) (now (work .entry)) r)) (now (work .entry)) ⌝ }
 {
     for k in 0..n {
@@ -104,7 +104,7 @@ pub fn interpolated_line(
     from: usize,
     to: usize,
 )
-    requires { ⌜ HasLine given r n from to (now points) (now work) × Solvable band end from to (2 * h + 1) h n (now work) × (1 ≤ n) ⌝ }
+    requires { ⌜ HasDataLine given r n from to (now points) (now work) × Solvable band end from to (2 * h + 1) h n (now work) × (1 ≤ n) ⌝ }
     ensures { λ _. ⌜ now (work .exit) ≡ splice from to (lineThrough h n (part band end (now (work .entry))) (dataPoint given (now (points .entry)) (now (work .entry)) r)) (now (work .entry)) ⌝ }
 {
     put_line(work, points, given, r, n, from, to);
@@ -125,7 +125,7 @@ pub fn interpolation(
     band: usize,
     poles: usize,
 )
-    requires { ⌜ Interpolates table given band poles (now points) (now work) (now index) ⌝ }
+    requires { ⌜ HasInterpolation table given band poles (now points) (now work) (now index) ⌝ }
     ensures { λ _. ⌜ Interpolated table given band poles (now (points .entry)) (now (index .entry)) (now (work .entry)) (now (work .exit)) ⌝ }
 {
     let n = table.count;

@@ -34,7 +34,7 @@ use Rattle.grids.specs.declared.GridAnswer.{GridAnswer}
 use Rattle.grids.specs.declared.GridAnswer.the-variants.{Fitted, Refused}
 use Rattle.checks.specs.declared.SurfaceCall.the-variants.{ApproximateWithin}
 use Rattle.checks.specs.GridChecks.{Grid, GridLent, gridRoomOf, gridChecks, GridShaped, GridRoomy, countsVerdict}
-use Rattle.grids.specs.Grids.{GridResult, uParameters, vParameters, alongV, alongU, rowShare, rowsWithin, fitGridBy, gridChecked, gridFitWith, gridFit, gridResultOf, gridAnswerOf, surfacePoles, gridHanded, GridCall, GridKept, ApproximatesGridWithin}
+use Rattle.grids.specs.Grids.{GridResult, uParameters, vParameters, alongV, alongU, rowShare, rowsWithin, fitGridBy, gridChecked, gridFitWith, gridFit, gridResultOf, gridAnswerOf, surfacePoles, gridHanded, GridCall, GridKept, ApproximatesGridWithin, HandsOutGrid}
 use Rattle.grids.proofs.SurfaceLaws.{length-transposed}
 use Rattle.checks.proofs.GridCheckLaws.{Degrees, grid-gives, degrees-under}
 
@@ -104,7 +104,7 @@ record GridKeptBy (d : Direction) (distances : GridFit → List Float) (t : Floa
   refined-within : (f : GridFit) (x : Float) → r ≡ Fitted f → f .u .mark ≡ Refined x → NoneAbove t (distances f)
   spread-within : (f : GridFit) (x : Float) → r ≡ Fitted f → f .u .mark ≡ Spread x → NoneAbove t (distances f)
   spread-passes : (f : GridFit) (x : Float) → r ≡ Fitted f → f .u .mark ≡ Spread x → passesOnSpread d t (f .u .poles) ≡ true
-  spread-least : (f : GridFit) (x : Float) → r ≡ Fitted f → f .u .mark ≡ Spread x → Fails d t (f .u .poles - 1)
+  one-below-fails : (f : GridFit) (x : Float) → r ≡ Fitted f → f .u .mark ≡ Spread x → Fails d t (f .u .poles - 1)
 
 -- ---- an accepted grid
 u-lawful : (g : Grid) (us vs : List Float) (v : Candidate) → Lawful (alongU (g .points) (g .shape) us vs v)
@@ -198,11 +198,11 @@ module _ (g : Grid) (t : Float) (l l′ : GridLent) (us vs : List Float) (n : le
               let c = spread-mark markedU x (ap (λ (i : GridFit). i .u .mark) q ∙ h) in
               let p : f .u .poles ≡ c .0 = ap (λ (i : GridFit). i .u .poles) (sym q) ∙ ap (λ (a : Marked). poleCount (g .shape .u) (unmarked a .flat)) (c .1 .1) ∙ o .from-spread (c .0) (c .1 .0) (c .1 .1) .1 in
               rw p (k .spread-passes (c .0) (c .1 .0) (c .1 .1));
-          spread-least = λ f x e h.
+          one-below-fails = λ f x e h.
               let q : handedFit ≡ f = cc in
               let c = spread-mark markedU x (ap (λ (i : GridFit). i .u .mark) q ∙ h) in
               let p : f .u .poles ≡ c .0 = ap (λ (i : GridFit). i .u .poles) (sym q) ∙ ap (λ (a : Marked). poleCount (g .shape .u) (unmarked a .flat)) (c .1 .1) ∙ o .from-spread (c .0) (c .1 .0) (c .1 .1) .1 in
-              rw p (k .spread-least (c .0) (c .1 .0) (c .1 .1));
+              rw p (k .one-below-fails (c .0) (c .1 .0) (c .1 .1));
         }
 
 -- ---- each way through
@@ -216,7 +216,7 @@ refused-kept g t l′ r c e =
       refined-within = λ f x q m. let z : _≡_ {A = ℕ} 0 1 = cc in absurd (omega arith);
       spread-within = λ f x q m. let z : _≡_ {A = ℕ} 0 1 = cc in absurd (omega arith);
       spread-passes = λ f x q m. let z : _≡_ {A = ℕ} 0 1 = cc in absurd (omega arith);
-      spread-least = λ f x q m. let z : _≡_ {A = ℕ} 0 1 = cc in absurd (omega arith);
+      one-below-fails = λ f x q m. let z : _≡_ {A = ℕ} 0 1 = cc in absurd (omega arith);
     }
 
 -- the result of a grid that passes its first checks, by its parameters and counts
@@ -242,21 +242,22 @@ module _ (g : Grid) (t : Float) (l l′ : GridLent) (r : GridAnswer) where
       → l′ .vFlat ≡ gridHanded (λ u v. length (v .flat)) (λ u v. at (v .flat)) (gridChecked Pass (withinOf g t (some us) (some vs) Pass)) (l .vFlat)
       → l′ .poles ≡ gridHanded (λ u v. length (surfacePoles (g .shape) u v)) (λ u v. at (surfacePoles (g .shape) u v)) (gridChecked Pass (withinOf g t (some us) (some vs) Pass)) (l .poles)
       → GridKept g t l′ r
-  unfolding gridChecked gridFitWith fitGridBy gridAnswerOf gridHanded distances-of
+  unfolding gridChecked gridFitWith fitGridBy rowsWithin rowAim columnAim fitTo afterRows besideRows gridAnswerOf gridHanded distances-of
   passed-kept us vs p q shaped room degrees a b c d =
       let k = accepted-kept g t l l′ us vs (shared-long (g .spacing) (g .shape .cols) (g .shape .rows) _ us p) (shared-long (g .spacing) (g .shape .rows) (g .shape .cols) _ vs q) shaped room degrees b c d r a in
       record {
         refined-within = λ f x e m. rw (p, q) (k .refined-within f x e m);
         spread-within = λ f x e m. rw (p, q) (k .spread-within f x e m);
         spread-passes = λ f x e m. rw (p, q) (k .spread-passes f x e m);
-        spread-least = λ f x e m. rw (p, q) (k .spread-least f x e m);
+        one-below-fails = λ f x e m. rw (p, q) (k .one-below-fails f x e m);
       }
 
-  pub kept-by-call : GridCall (ApproximateWithin t) g l l′ r → GridKept g t l′ r
+  -- who hands the call's result out keeps demand 3. The slices that the call was judged by are m: those that were lent, or none.
+  pub grid-handed-kept : (m : GridLent) → (gridChecks g (gridRoomOf m) ≡ Pass → gridChecks g (gridRoomOf l) ≡ Pass) → HandsOutGrid (g .shape) (gridResultOf (ApproximateWithin t) g m) l l′ r → GridKept g t l′ r
   unfolding gridFit gridResultOf
-  kept-by-call call = go (gridChecks g (gridRoomOf l)) refl (uParameters g) refl (vParameters g) refl (countsVerdict (ApproximateWithin t) (g .shape)) refl (call .hands .answer) (call .hands .uFlat) (call .hands .vFlat) (call .hands .poles)
+  grid-handed-kept m lends i = go (gridChecks g (gridRoomOf m)) refl (uParameters g) refl (vParameters g) refl (countsVerdict (ApproximateWithin t) (g .shape)) refl (i .answer) (i .uFlat) (i .vFlat) (i .poles)
     where
-      go : (w : Verdict) → gridChecks g (gridRoomOf l) ≡ w → (o₁ : Option (List Float)) → uParameters g ≡ o₁ → (o₂ : Option (List Float)) → vParameters g ≡ o₂ → (k : Verdict) → countsVerdict (ApproximateWithin t) (g .shape) ≡ k
+      go : (w : Verdict) → gridChecks g (gridRoomOf m) ≡ w → (o₁ : Option (List Float)) → uParameters g ≡ o₁ → (o₂ : Option (List Float)) → vParameters g ≡ o₂ → (k : Verdict) → countsVerdict (ApproximateWithin t) (g .shape) ≡ k
           → r ≡ gridAnswerOf (g .shape) (gridChecked w (withinOf g t o₁ o₂ k))
           → l′ .uFlat ≡ gridHanded (λ u v. length (u .flat)) (λ u v. at (u .flat)) (gridChecked w (withinOf g t o₁ o₂ k)) (l .uFlat)
           → l′ .vFlat ≡ gridHanded (λ u v. length (v .flat)) (λ u v. at (v .flat)) (gridChecked w (withinOf g t o₁ o₂ k)) (l .vFlat)
@@ -266,8 +267,8 @@ module _ (g : Grid) (t : Float) (l l′ : GridLent) (r : GridAnswer) where
       go Pass e none e₁ o₂ e₂ k e₃ a f h p = refused-kept g t l′ r ConfusedPoints (u-confused g t o₂ k r a)
       go Pass e (some us) e₁ none e₂ k e₃ a f h p = refused-kept g t l′ r ConfusedPoints (v-confused g t us k r a)
       go Pass e (some us) e₁ (some vs) e₂ (Stop c) e₃ a f h p = refused-kept g t l′ r c (counts-stopped g t us vs c r a)
-      go Pass e (some us) e₁ (some vs) e₂ Pass e₃ a f h p = passed-kept us vs e₁ e₂ (grid-gives g (gridRoomOf l) e .0) (grid-gives g (gridRoomOf l) e .1) (degrees-under t (g .shape) e₃) a f h p
+      go Pass e (some us) e₁ (some vs) e₂ Pass e₃ a f h p = passed-kept us vs e₁ e₂ (grid-gives g (gridRoomOf l) (lends e) .0) (grid-gives g (gridRoomOf l) (lends e) .1) (degrees-under t (g .shape) e₃) a f h p
 
 -- Demand 3 needs no proof of the program: it follows from the call's equations.
 pub approximates-grid-within : (g : Grid) (t : Float) (l l′ : GridLent) (r : GridAnswer) → GridCall (ApproximateWithin t) g l l′ r → ApproximatesGridWithin g t l l′ r
-approximates-grid-within g t l l′ r call = record { call = call; kept = kept-by-call g t l l′ r call }
+approximates-grid-within g t l l′ r call = record { call = call; kept = grid-handed-kept g t l l′ r l (λ e. e) (call .hands) }

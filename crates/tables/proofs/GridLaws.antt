@@ -23,10 +23,10 @@ use Rattle.geometry.proofs.Roots.{roots-listOf, roots-joined, held-listOf, held
 use Rattle.tables.specs.declared.Table.{Table}
 use Rattle.tables.specs.declared.Measured.{Measured}
 use Rattle.tables.specs.BasisTable.{BasisTable, first, value, tablePoint}
-use Rattle.tables.specs.Deviations.{rowDistances, curvePoles, gridDistances}
+use Rattle.tables.specs.Deviations.{rowDistances, curvePoles, gridDistances, largestOverRows, largestOverColumns}
 use Rattle.tables.specs.Directions.{transposed}
 use Rattle.tables.specs.Layout.{tableIn, Kept, HasFit}
-use Rattle.tables.specs.Measures.{measured, withAll, squaresMeasured, rooted, squareFromLine, curveOf, HasGrid, LeavesSquares, columnDeviations, rowDeviations, gridDistancesIn}
+use Rattle.tables.specs.Measures.{measured, withAll, squaresMeasured, rooted, squareFromLine, curveOf, HasGrid, LeavesSquares, gridDistancesIn}
 use Rattle.tables.proofs.KeptLaws.{kept-laid, kept-splice, kept-wider, kept-then, kept-table}
 use Rattle.tables.proofs.MeasureLaws.{squares-append, squares-few, rooted-measured, rooted-largest, part-laid-region}
 use Rattle.tables.proofs.ReadingLaws.{count-in, degree-in, read-kept}
@@ -124,7 +124,7 @@ module _ (t : Table) (index : List ℕ) (points : List Float) (rows m poles out 
 
   pub rows-done : (w₀ w w₁ : List Float) (total r : Measured) → HasFit t rows m poles out (t .count) w₀ index → w ≡ laid out (t .count) (λ (k : ℕ). nought) w₀
       → w₁ ≡ laid out (t .count) (columnLargest w rows) w → total ≡ squaresMeasured (Rows (rowSquare w) (t .count) rows) → r ≡ rooted total
-      → LeavesSquares (t .count) out out (columnDeviations rows (t .count)) (rowDistances rows (tableIn t w₀ index) m (part poles (poles + 3 * (rows * m)) w₀) points) w₀ w₁ r
+      → LeavesSquares (t .count) out out (largestOverRows rows (t .count)) (rowDistances rows (tableIn t w₀ index) m (part poles (poles + 3 * (rows * m)) w₀) points) w₀ w₁ r
   rows-done w₀ w w₁ total r x e e₁ g h =
       let n : ℕ = t .count in
       let kept : Kept out (out + n) w₀ w = rw e (kept-laid out n (λ (k : ℕ). nought) w₀ (x .room)) in
@@ -246,7 +246,7 @@ module _ (u v : Table) (index : List ℕ) (points : List Float) (columns m poles
       ∙ distance-root (tablePoint (tableIn v w index) (curveIn w i) 0 j) (pointAt points (i * v .count + j)))))
 
   pub grid-done : (w w′ : List Float) (total r : Measured) → HasGrid u v columns m poles curve out points w index → GridTo w w′ total (u .count) → r ≡ rooted total
-      → LeavesSquares (u .count) curve out (rowDeviations (u .count) (v .count)) (gridDistancesIn u v columns m poles points w index) w w′ r
+      → LeavesSquares (u .count) curve out (largestOverColumns (u .count) (v .count)) (gridDistancesIn u v columns m poles points w index) w w′ r
   grid-done w w′ total r x g h =
       let rows : ℕ = u .count in
       let held : (i j : ℕ) → T (fits binary64 (gridSquare w i j)) =

@@ -5,9 +5,8 @@ use mathlib.Core.List.{List}
 use Prim.Native.Nat.{ℕ, _+_, _*_, _≤_}
 use lib.ListN.{length}
 use lib.Ieee.{Float, isNan}
-use Rattle.places.specs.Places.{listOf}
 use Rattle.places.specs.Regions.{part}
-use Rattle.geometry.specs.Doubles.{at, larger, largest}
+use Rattle.geometry.specs.Doubles.{larger, largest}
 use Rattle.geometry.specs.Points.{squaredDistance, pointAt, pointsOf}
 use Rattle.geometry.specs.Root.{sqrtOf, rootsOf}
 use Rattle.tables.specs.declared.Measured.{Measured}
@@ -41,16 +40,6 @@ pub record LeavesSquares (n from out : ℕ) (deviationsOf : List Float → List 
   pub measures : r ≡ measured ds
   pub deviations : rootsOf (part out (out + n) w′) ≡ deviationsOf ds
   pub kept : Kept from (out + n) w w′
-
--- the deviations of a grid's columns and rows, each the largest over its points, by the distances row after row; a ladder's are the distances themselves
-abbrev pub columnDeviations : ℕ → ℕ → List Float → List Float
-columnDeviations rows cols ds = listOf cols (λ j. largest (listOf rows (λ i. at ds (i * cols + j))))
-
-abbrev pub rowDeviations : ℕ → ℕ → List Float → List Float
-rowDeviations rows cols ds = listOf rows (λ i. largest (listOf cols (λ j. at ds (i * cols + j))))
-
-abbrev pub pointDeviations : List Float → List Float
-pointDeviations ds = ds
 
 -- point j of row i of s, `cols` points a row: the square of its distance from the row's own m poles
 abbrev pub squareFromLine : BasisTable → ℕ → List Float → List Float → ℕ → ℕ → ℕ → Float

@@ -7,9 +7,9 @@ ghost use Rattle.places.specs.Regions.{part, splice};
 ghost use Rattle.geometry.specs.Doubles.{at, larger};
 ghost use Rattle.geometry.specs.Points.{squaredDistance, pointAt};
 ghost use Rattle.tables.specs.BasisTable.{tablePoint};
-ghost use Rattle.tables.specs.Deviations.{ladderDistances, rowDistances};
+ghost use Rattle.tables.specs.Deviations.{ladderDistances, rowDistances, pointDeviations, largestOverRows, largestOverColumns};
 ghost use Rattle.tables.specs.Layout.{tableIn, Readable, HasTable, HasFit};
-ghost use Rattle.tables.specs.Measures.{squaresMeasured, withAll, withSquare, rooted, squareFromLine, curveOf, HasGrid, LeavesSquares, pointDeviations, columnDeviations, rowDeviations, gridDistancesIn};
+ghost use Rattle.tables.specs.Measures.{squaresMeasured, withAll, withSquare, rooted, squareFromLine, curveOf, HasGrid, LeavesSquares, gridDistancesIn};
 use crate::Measured;
 use crate::Table;
 use geometry::Point;
@@ -146,7 +146,7 @@ pub fn row_deviations(
     out: usize,
 ) -> Measured
     requires { ⌜ HasFit table rows m poles out (table .count) (now work) (now index) × (3 * (rows * table .count) ≤ length (now points)) ⌝ }
-    ensures { λ r. ⌜ LeavesSquares (table .count) out out (columnDeviations rows (table .count)) (rowDistances rows (tableIn table (now (work .entry)) (now (index .entry))) m (part poles (poles + 3 * (rows * m)) (now (work .entry))) (now (points .entry))) (now (work .entry)) (now (work .exit)) r ⌝ }
+    ensures { λ r. ⌜ LeavesSquares (table .count) out out (largestOverRows rows (table .count)) (rowDistances rows (tableIn table (now (work .entry)) (now (index .entry))) m (part poles (poles + 3 * (rows * m)) (now (work .entry))) (now (points .entry))) (now (work .entry)) (now (work .exit)) r ⌝ }
 {
     let count = table.count;
     places::fill(work, out, count, 0.0);
@@ -225,7 +225,7 @@ pub fn grid_deviations(
     out: usize,
 ) -> Measured
     requires { ⌜ HasGrid u v columns m poles curve out (now points) (now work) (now index) ⌝ }
-    ensures { λ r. ⌜ LeavesSquares (u .count) curve out (rowDeviations (u .count) (v .count)) (gridDistancesIn u v columns m poles (now (points .entry)) (now (work .entry)) (now (index .entry))) (now (work .entry)) (now (work .exit)) r ⌝ }
+    ensures { λ r. ⌜ LeavesSquares (u .count) curve out (largestOverColumns (u .count) (v .count)) (gridDistancesIn u v columns m poles (now (points .entry)) (now (work .entry)) (now (index .entry))) (now (work .entry)) (now (work .exit)) r ⌝ }
 {
     let rows = u.count;
     let mut total = Measured {

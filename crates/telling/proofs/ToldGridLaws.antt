@@ -1,4 +1,4 @@
--- A call with room for its answer is the grid call; one without is refused by the checks, and nothing is touched. Assumes nothing.
+-- A call with room for its answer is the grid call; one without is refused by the checks, and nothing is touched. Either way demand 3 is kept. Assumes nothing.
 use mathlib.Core.Path.{_≡_, refl, sym, ap, _∙_, subst}
 use mathlib.Core.Bool.{Bool, true, false, cond, not, _&&_}
 use mathlib.Core.List.{List}
@@ -14,12 +14,14 @@ use Rattle.bspline.specs.declared.Verdict.{Verdict}
 use Rattle.bspline.specs.declared.Verdict.the-variants.{Pass, Stop}
 use Rattle.checks.specs.LadderChecks.{cleared}
 use Rattle.checks.specs.declared.SurfaceCall.{SurfaceCall}
+use Rattle.checks.specs.declared.SurfaceCall.the-variants.{ApproximateWithin}
 use Rattle.grids.specs.declared.GridAnswer.{GridAnswer}
 use Rattle.checks.specs.GridChecks.{Grid, GridLent, gridRoomOf, gridChecks}
 use Rattle.grids.specs.Grids.{GridResult, gridRefused, gridFit, gridChecked, gridResultOf, gridResultNumber, gridAnswerOf, gridAnswerNumber, GridCall}
 use Rattle.checks.proofs.GridCheckLaws.{grid-gives}
 use Rattle.grids.proofs.GridRunLaws.{grid-refused}
-use Rattle.telling.specs.ToldGrid.{tellableGrid, noGrid, toldGridLargest, toldGridCounts, ToldGridBy, ToldGrid}
+use Rattle.surfaces.proofs.GridLaws.{grid-handed-kept}
+use Rattle.telling.specs.ToldGrid.{tellableGrid, noGrid, judgedGrid, toldGridLargest, toldGridCounts, ToldGridBy, ToldGrid, ToldGridWithin}
 
 -- the room that the slices have
 pub few-largest : (largest : List Float) (counts : List ℕ) → length largest < 2 → tellableGrid largest counts ≡ false
@@ -80,3 +82,14 @@ module _ (call : SurfaceCall) (g : Grid) where
         most = p ∙ ap (λ (y : GridAnswer). toldGridLargest y largest) (h .answer);
         told = q ∙ ap (λ (y : GridAnswer). toldGridCounts y counts) (h .answer);
       })
+
+  -- what passes the checks as it is judged passes them as it is lent
+  lends : (b : Bool) (l : GridLent) → gridChecks g (gridRoomOf (cond b l noGrid)) ≡ Pass → gridChecks g (gridRoomOf l) ≡ Pass
+  lends true l e = e
+  lends false l e = absurd (stops e)
+
+-- so the call within a tolerance keeps demand 3 along u
+pub told-grid-within : (g : Grid) (t : Float) (l l′ : GridLent) (largest largest′ : List Float) (counts counts′ : List ℕ) (r : ℕ)
+    → ToldGrid (ApproximateWithin t) g l l′ largest largest′ counts counts′ r → ToldGridWithin g t l l′ largest largest′ counts counts′ r
+told-grid-within g t l l′ largest largest′ counts counts′ r x =
+    record { call = x; kept = grid-handed-kept g t l l′ _ (judgedGrid l largest counts) (lends (ApproximateWithin t) g (tellableGrid largest counts) l) (x .hands) }

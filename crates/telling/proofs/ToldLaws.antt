@@ -1,4 +1,4 @@
--- A call with room for its answer is the ladder call; one without is refused by the checks, and nothing is touched. Assumes nothing.
+-- A call with room for its answer is the ladder call; one without is refused by the checks, and nothing is touched. Either way demand 3 is kept. Assumes nothing.
 use mathlib.Core.Path.{_≡_, refl, sym, ap, _∙_, subst}
 use mathlib.Core.Bool.{Bool, true, false, cond, not, _&&_}
 use mathlib.Core.List.{List}
@@ -14,12 +14,14 @@ use Rattle.bspline.specs.declared.Verdict.{Verdict}
 use Rattle.bspline.specs.declared.Verdict.the-variants.{Pass, Stop}
 use Rattle.knots.specs.declared.Spacing.{Spacing}
 use Rattle.checks.specs.declared.Call.{Call}
+use Rattle.checks.specs.declared.Call.the-variants.{ApproximateWithin, SearchSpread}
 use Rattle.ladders.specs.declared.Answer.{Answer}
 use Rattle.checks.specs.LadderChecks.{Lent, ladderChecks, cleared}
 use Rattle.making.specs.Results.{Result, refused, fitBy}
 use Rattle.ladders.specs.Ladders.{ladderFit, checked, resultOf, resultNumber, answerOf, answerNumber, handed, handedPoles, handedFlat, handedKnots, handedMults, LadderCall}
 use Rattle.checks.proofs.CheckLaws.{checks-give}
-use Rattle.telling.specs.Told.{tellable, nothing, toldLargest, toldCounts, ToldBy, Told}
+use Rattle.ladders.proofs.LadderLaws.{within-handed, spread-handed}
+use Rattle.telling.specs.Told.{tellable, nothing, judged, toldLargest, toldCounts, ToldBy, Told, ToldWithin, ToldSpread}
 
 -- the room that the slices have
 pub few-largest : (largest : List Float) (counts : List ℕ) → length largest < 1 → tellable largest counts ≡ false
@@ -79,3 +81,16 @@ module _ (call : Call) (s : List Float) (degree : ℕ) (v : Spacing) where
         most = p ∙ ap (λ (y : Answer). toldLargest y largest) (h .answer);
         told = q ∙ ap (λ (y : Answer). toldCounts y counts) (h .answer);
       })
+
+  -- what passes the checks as it is judged passes them as it is lent
+  lends : (b : Bool) (l : Lent) → ladderChecks call s degree (cond b l nothing) ≡ Pass → ladderChecks call s degree l ≡ Pass
+  lends true l e = e
+  lends false l e = absurd (stops e)
+
+-- so the calls within a tolerance keep demand 3
+module _ (s : List Float) (degree : ℕ) (t : Float) (v : Spacing) (l l′ : Lent) (largest largest′ : List Float) (counts counts′ : List ℕ) (r : ℕ) where
+  pub told-within : Told (ApproximateWithin t) s degree v l l′ largest largest′ counts counts′ r → ToldWithin s degree t v l l′ largest largest′ counts counts′ r
+  told-within x = record { call = x; kept = within-handed s degree t v l l′ _ (judged l largest counts) (lends (ApproximateWithin t) s degree v (tellable largest counts) l) (x .hands) }
+
+  pub told-spread : Told (SearchSpread t) s degree v l l′ largest largest′ counts counts′ r → ToldSpread s degree t v l l′ largest largest′ counts counts′ r
+  told-spread x = record { call = x; kept = spread-handed s degree t v l l′ _ (judged l largest counts) (lends (SearchSpread t) s degree v (tellable largest counts) l) (x .hands) }

@@ -2,24 +2,22 @@
 use mathlib.Core.Path.{_≡_}
 use mathlib.Core.Bool.{Bool, cond, not, _&&_}
 use mathlib.Core.List.{List, []}
+use mathlib.Core.Option.{none}
 use Prim.Native.Nat.{ℕ, _+_}
-use lib.Dec.{eqb, ltb}
+use lib.Dec.{ltb}
 use lib.ListN.{length, set}
 use lib.Ieee.{Float}
 use Rattle.geometry.specs.Doubles.{nought}
 use Rattle.knots.specs.declared.Spacing.{Spacing}
-use Rattle.knots.specs.declared.Spacing.the-variants.{Chordal, Centripetal}
 use Rattle.checks.specs.declared.Call.{Call}
+use Rattle.checks.specs.declared.Call.the-variants.{ApproximateWithin, SearchSpread}
 use Rattle.fitting.specs.declared.Fit.{Fit}
 use Rattle.ladders.specs.declared.Answer.{Answer}
 use Rattle.ladders.specs.declared.Answer.the-variants.{Fitted, Refused}
 use Rattle.fitting.specs.Marks.{largestDeviation, markNumber}
 use Rattle.checks.specs.LadderChecks.{Lent, lent, ladderChecks, cleared}
-use Rattle.ladders.specs.Ladders.{resultOf, resultNumber, answerOf, HandsOut}
-
--- 0 is chordal, any other number centripetal
-abbrev pub spacingOf : ℕ → Spacing
-spacingOf k = cond (eqb k 0) Chordal Centripetal
+use Rattle.ladders.specs.Ladders.{resultOf, resultNumber, answerOf, HandsOut, ladderOf, LadderKept}
+use Rattle.fitting.specs.Within.{fitWithRefinedKnots}
 
 -- room for the largest deviation, and for mark, poles, distinct knots and unreadable deviations
 abbrev pub tellable : List Float → List ℕ → Bool
@@ -57,3 +55,12 @@ pub record ToldBy (m : Lent) (call : Call) (s : List Float) (degree : ℕ) (v : 
 -- The contract of a ladder call for C.
 abbrev pub Told : Call → List Float → ℕ → Spacing → Lent → Lent → List Float → List Float → List ℕ → List ℕ → ℕ → Type 0
 Told call s degree v l l′ largest largest′ counts counts′ r = ToldBy (judged l largest counts) call s degree v l l′ largest largest′ counts counts′ r
+
+-- The contracts of the two ladder calls within a tolerance for C: with demand 3 of the answer that is told, and of the knots and poles in the slices at exit.
+pub record ToldWithin (s : List Float) (degree : ℕ) (t : Float) (v : Spacing) (l l′ : Lent) (largest largest′ : List Float) (counts counts′ : List ℕ) (r : ℕ) : Type 0 where
+  pub call : Told (ApproximateWithin t) s degree v l l′ largest largest′ counts counts′ r
+  pub kept : LadderKept v s degree t (fitWithRefinedKnots (ladderOf v s degree) t) l′ (answerOf degree (resultOf (ApproximateWithin t) s degree v (judged l largest counts)))
+
+pub record ToldSpread (s : List Float) (degree : ℕ) (t : Float) (v : Spacing) (l l′ : Lent) (largest largest′ : List Float) (counts counts′ : List ℕ) (r : ℕ) : Type 0 where
+  pub call : Told (SearchSpread t) s degree v l l′ largest largest′ counts counts′ r
+  pub kept : LadderKept v s degree t none l′ (answerOf degree (resultOf (SearchSpread t) s degree v (judged l largest counts)))

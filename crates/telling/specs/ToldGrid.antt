@@ -11,10 +11,11 @@ use Rattle.fitting.specs.Marks.{largestDeviation}
 use Rattle.checks.specs.LadderChecks.{cleared}
 use Rattle.checks.specs.declared.Shape.{Shape}
 use Rattle.checks.specs.declared.SurfaceCall.{SurfaceCall}
+use Rattle.checks.specs.declared.SurfaceCall.the-variants.{ApproximateWithin}
 use Rattle.grids.specs.declared.GridAnswer.{GridAnswer}
 use Rattle.grids.specs.declared.GridAnswer.the-variants.{Fitted, Refused}
 use Rattle.checks.specs.GridChecks.{Grid, GridLent, gridLent, gridRoomOf, gridChecks}
-use Rattle.grids.specs.Grids.{gridResultOf, gridResultNumber, gridAnswerOf, HandsOutGrid}
+use Rattle.grids.specs.Grids.{gridResultOf, gridResultNumber, gridAnswerOf, HandsOutGrid, GridKept}
 use Rattle.telling.specs.Told.{putFit}
 
 -- rows and columns of points, and the degrees along u and v
@@ -53,3 +54,8 @@ pub record ToldGridBy (m : GridLent) (call : SurfaceCall) (g : Grid) (l l′ : G
 -- The contract of a grid call for C.
 abbrev pub ToldGrid : SurfaceCall → Grid → GridLent → GridLent → List Float → List Float → List ℕ → List ℕ → ℕ → Type 0
 ToldGrid call g l l′ largest largest′ counts counts′ r = ToldGridBy (judgedGrid l largest counts) call g l l′ largest largest′ counts counts′ r
+
+-- The contract of the grid call within a tolerance for C: with demand 3 along u of the answer that is told, and of the knots and poles in the slices at exit.
+pub record ToldGridWithin (g : Grid) (t : Float) (l l′ : GridLent) (largest largest′ : List Float) (counts counts′ : List ℕ) (r : ℕ) : Type 0 where
+  pub call : ToldGrid (ApproximateWithin t) g l l′ largest largest′ counts counts′ r
+  pub kept : GridKept g t l′ (gridAnswerOf (g .shape) (gridResultOf (ApproximateWithin t) g (judgedGrid l largest counts)))

@@ -52,6 +52,7 @@ fn grid_without_room(points: &[f64], shape: Shape, spacing: Spacing, call: Surfa
     }
 }
 
+// A grid call with its answer told, in the same way.
 pub fn call_grid(
     points: &[f64],
     shape: Shape,

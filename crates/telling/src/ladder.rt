@@ -46,6 +46,7 @@ fn without_room(points: &[f64], degree: usize, spacing: Spacing, call: Call) -> 
     }
 }
 
+// A ladder call with its answer told; where there is no room for that, it is judged as one with nothing lent.
 pub fn call_ladder(
     points: &[f64],
     degree: usize,

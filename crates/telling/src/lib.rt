@@ -6,19 +6,8 @@ ghost use mathlib.Core.Path.{_≡_};
 ghost use Prim.Native.Nat.{_+_, _≤_, _<_};
 ghost use lib.ListN.{length, set};
 ghost use Rattle.fitting.specs.Marks.{largestDeviation};
-ghost use Rattle.telling.specs.Told.{spacingOf, putFit};
+ghost use Rattle.telling.specs.Told.{putFit};
 use fitting::Fit;
-use knots::Spacing;
-
-// 0 is chordal, any other number centripetal.
-pub fn spacing_of(number: usize) -> Spacing
-    ensures { λ r. ⌜ r ≡ spacingOf number ⌝ }
-{
-    if number == 0 {
-        return Spacing::Chordal;
-    }
-    Spacing::Centripetal
-}
 
 // A fit's largest deviation in place j of `largest`, and its mark and counts in the four places of `counts` from k on.
 pub fn tell_fit(fit: Fit, largest: &mut [f64], j: usize, counts: &mut [usize], k: usize)
@@ -28,7 +17,7 @@ pub fn tell_fit(fit: Fit, largest: &mut [f64], j: usize, counts: &mut [usize], k
 {
     let mark = fit.mark;
     largest[j] = mark.deviation();
-    counts[k] = mark.kind();
+    counts[k] = mark.number();
     counts[k + 1] = fit.poles;
     counts[k + 2] = fit.knots;
     counts[k + 3] = fit.unreadable;

@@ -15,8 +15,8 @@ mul-largest c = search needs
 slice-write-largest : tie.Need-slice-write-largest
 slice-write-largest c = search needs
 
-kind-requires : tie.Need-kind-requires
-kind-requires c κs = search needs
+number-requires : tie.Need-number-requires
+number-requires c κs = search needs
 
 mul-counts : tie.Need-mul-counts
 mul-counts c = search needs
@@ -61,7 +61,7 @@ returns : tie.Need-returns
 returns c =
     let s = c .before .before .before .before in
     let a = s .args in
-    (ap (set (a .largest .now) (a .j)) (c .before .deviation .ensures), rw (c .kind .ensures) refl)
+    (ap (set (a .largest .now) (a .j)) (c .before .deviation .ensures), rw (c .number .ensures) refl)
 
 pub tell-fit-spec : {M : Type 1} → statement M
 tell-fit-spec =
@@ -70,7 +70,7 @@ tell-fit-spec =
     deviation-requires
     mul-largest
     slice-write-largest
-    kind-requires
+    number-requires
     mul-counts
     slice-write-counts
     add-counts

@@ -1,6 +1,6 @@
 -- The definition, call by call. Assumes nothing.
 use mathlib.Core.Path.{sym, ap}
-use Rattle.grids.specs.GridRuns.{columnAim}
+use Rattle.grids.specs.Grids.{columnAim}
 use borrow.Author.Needs.{needs}
 use Rattle.grids.proofs.jobs.column_aim.Statement.{statement}
 use Rattle.grids.proofs.jobs.column_aim.Tie as tie

@@ -1,4 +1,5 @@
--- The spacing by its number, and the call. Assumes nothing.
+-- The spacing by its number, and the call; what it tells keeps demand 3. Assumes nothing.
+use Rattle.telling.proofs.ToldGridLaws.{told-grid-within}
 use borrow.Author.Needs.{needs}
 use Rattle.interface.proofs.grid_calls.nigorzai_approximate_grid_within.Statement.{statement}
 use Rattle.interface.proofs.grid_calls.nigorzai_approximate_grid_within.Tie as tie
@@ -43,7 +44,7 @@ same-length-11 : tie.Need-same-length-11
 same-length-11 c = search needs
 
 returns : tie.Need-returns
-returns c = rw (c .before .before .before .before .before .before .before .before .before .before .before .before .before .before .before .before .before .before .before .before .before .before .before .before .before .before .before .before .before .before .before .before .before .before .spacing-of .ensures) at (c .before .before .before .before .before .before .before .before .before .before .before .before .before .before .before .before .before .before .before .before .before .before .call-grid .ensures)
+returns c = told-grid-within _ _ _ _ _ _ _ _ _ (rw (c .before .before .before .before .before .before .before .before .before .before .before .before .before .before .before .before .before .before .before .before .before .before .before .before .before .before .before .before .before .before .before .before .before .before .spacing-of .ensures) at (c .before .before .before .before .before .before .before .before .before .before .before .before .before .before .before .before .before .before .before .before .before .before .call-grid .ensures))
 
 pub nigorzai-approximate-grid-within-spec : {M : Type 1} → statement M
 nigorzai-approximate-grid-within-spec =

@@ -3,7 +3,7 @@ use borrow.Author.Needs.{needs}
 use Rattle.interface.proofs.ladder_calls.nigorzai_approximate.Statement.{statement}
 use Rattle.interface.proofs.ladder_calls.nigorzai_approximate.Tie as tie
 use Rattle.telling.proofs.ladder.call_ladder.Reads as call-ladder-reads
-use Rattle.telling.proofs.spacing_of.Reads as spacing-of-reads
+use Rattle.knots.proofs.spacing_of.Reads as spacing-of-reads
 
 spacing-of-requires : tie.Need-spacing-of-requires
 spacing-of-requires c κs = search needs

@@ -1,9 +1,10 @@
--- The spacing by its number, and the call. Assumes nothing.
+-- The spacing by its number, and the call; what it tells keeps demand 3. Assumes nothing.
+use Rattle.telling.proofs.ToldLaws.{told-spread}
 use borrow.Author.Needs.{needs}
 use Rattle.interface.proofs.ladder_calls.nigorzai_search_spread.Statement.{statement}
 use Rattle.interface.proofs.ladder_calls.nigorzai_search_spread.Tie as tie
 use Rattle.telling.proofs.ladder.call_ladder.Reads as call-ladder-reads
-use Rattle.telling.proofs.spacing_of.Reads as spacing-of-reads
+use Rattle.knots.proofs.spacing_of.Reads as spacing-of-reads
 
 spacing-of-requires : tie.Need-spacing-of-requires
 spacing-of-requires c κs = search needs
@@ -37,7 +38,7 @@ same-length-8 c = search needs
 
 returns : tie.Need-returns
 returns c =
-    rw (c .before .before .before .before .before .before .before .before .before .before .before .before .before .before .before .before .before .before .before .before .before .before .before .before .before .spacing-of .ensures) at (c .before .before .before .before .before .before .before .before .before .before .before .before .before .before .before .before .call-ladder .ensures)
+    told-spread _ _ _ _ _ _ _ _ _ _ _ (rw (c .before .before .before .before .before .before .before .before .before .before .before .before .before .before .before .before .before .before .before .before .before .before .before .before .before .spacing-of .ensures) at (c .before .before .before .before .before .before .before .before .before .before .before .before .before .before .before .before .call-ladder .ensures))
 
 pub nigorzai-search-spread-spec : {M : Type 1} → statement M
 nigorzai-search-spread-spec =

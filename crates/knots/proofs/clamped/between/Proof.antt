@@ -1,6 +1,6 @@
 -- The definition, by the whole part; past the last place but one it reads NaN, and so does a quotient of zeros. Assumes nothing.
 use native.Mathlib.Omega.{arith}
-use Rattle.knots.specs.Calls.{betweenPlaces}
+use Rattle.knots.specs.Knots.{betweenPlaces}
 use Rattle.knots.proofs.ParameterLaws.{small-float}
 use Rattle.knots.proofs.KnotLaws.{between-none}
 use borrow.Author.Needs.{needs}

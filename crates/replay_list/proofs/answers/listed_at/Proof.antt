@@ -116,7 +116,7 @@ add-t25 c = search needs
 
 returns-8 : tie.Need-returns-8
 unfolding listedAt
-returns-8 c = (rw (lt-ltb _ _ (c .before .before .before .before .before .before .before .before .before .before .before .before .if1 .left), eq-eqb _ _ (c .before .before .before .before .before .before .before .before .before .before .if2 .left), le-ltb _ _ (c .before .before .before .before .before .before .before .before .before .if3 .left), le-ltb _ _ (c .before .before .before .before .before .before .if4 .left), le-ltb _ _ (c .before .before .before .before .before .if5 .left), le-ltb _ _ (c .before .before .before .before .if6 .left), le-ltb _ _ (c .before .before .before .if7 .left)), record { low = c .before .before .before .before .before .before .if4 .left; few = c .before .before .before .before .before .if5 .left; knots = c .before .before .before .before .if6 .left; values = c .before .before .before .if7 .left })
+returns-8 c = (rw (lt-ltb _ _ (c .before .before .before .before .before .before .before .before .before .before .before .before .if1 .left), eq-eqb _ _ (c .before .before .before .before .before .before .before .before .before .before .if2 .left), le-ltb _ _ (c .before .before .before .before .before .before .before .before .before .if3 .left), le-ltb _ _ (c .before .before .before .before .before .before .if4 .left), le-ltb _ _ (c .before .before .before .before .before .if5 .left), le-ltb _ _ (c .before .before .before .before .if6 .left), le-ltb _ _ (c .before .before .before .if7 .left)), record { high = c .before .before .before .before .before .before .if4 .left; few = c .before .before .before .before .before .if5 .left; knots = c .before .before .before .before .if6 .left; values = c .before .before .before .if7 .left })
 
 pub listed-at-spec : {M : Type 1} → statement M
 listed-at-spec =

@@ -2,7 +2,7 @@
 use mathlib.Core.Path.{_∙_}
 use borrow.Author.Tests.{le-leb, lt-leb}
 use borrow.Author.Needs.{needs}
-use Rattle.solving.specs.Through.{putWithin}
+use Rattle.solving.specs.Interpolation.{putWithin}
 use Rattle.solving.proofs.through.put_within.Statement.{statement}
 use Rattle.solving.proofs.through.put_within.Tie as tie
 

@@ -1,7 +1,7 @@
 -- By the number. Assumes nothing.
 use borrow.Author.Tests.{eq-eqb, ne-eqb}
-use Rattle.telling.proofs.spacing_of.Statement.{statement}
-use Rattle.telling.proofs.spacing_of.Tie as tie
+use Rattle.knots.proofs.spacing_of.Statement.{statement}
+use Rattle.knots.proofs.spacing_of.Tie as tie
 
 returns : tie.Need-returns
 returns c =
