@@ -1,4 +1,4 @@
--- What is printed for the judgement of a whole text is that text's answer. Assumes nothing.
+-- What is printed for the judgement of a whole text is that text's answer, also where the text was read in parts. Assumes nothing.
 use Prim.Native.Nat.{ℕ, _*_, _≤_}
 use mathlib.Core.Path.{_≡_, refl, sym, ap, _∙_}
 use mathlib.Core.List.{List}
@@ -10,8 +10,10 @@ use Rattle.card_reader.specs.declared.Judgement.{Judgement}
 use Rattle.card_reader.specs.declared.Judgement.the-variants.{Card, TooMany, Unreadable}
 use Rattle.card_reader.specs.Card.{Row, IsCard, doubles, laidOver}
 use Rattle.card_reader.specs.Judged.{Judged}
+use Rattle.card_reader.specs.declared.State.{State}
+use Rattle.card_reader.specs.Reading.{HasRead, judgementOf}
 use Rattle.card_reader.proofs.LaidLaws.{front-laid}
-use Rattle.card_reader.proofs.JudgedLaws.{one-card}
+use Rattle.card_reader.proofs.JudgedLaws.{one-card, read-judged}
 use Rattle.card.specs.Answers.{ladderText, printed, Answered}
 
 -- the points at the front of the slice are the card's
@@ -44,3 +46,8 @@ judged-answered t old new TooMany j =
     }
 judged-answered t old new Unreadable j =
     record { card = λ g qs d l. absurd (j .0 g qs d); too-many = λ g qs d l. absurd (j .0 g qs d); unreadable = λ d. refl }
+
+-- the same of a text that was read in parts
+pub read-answered : (t : List ℕ) (old : List Float) (s : State) (new : List Float) → 192 ≤ length old → HasRead t old s new
+    → Answered t (printed (judgementOf s) new)
+read-answered t old s new l h = judged-answered t old new (judgementOf s) (read-judged t old s new l h)

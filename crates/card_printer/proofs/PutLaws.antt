@@ -1,11 +1,12 @@
 -- Texts put one after the other. Assumes nothing.
-use Prim.Native.Nat.{ℕ, _+_, _≤_}
+use Prim.Native.Nat.{ℕ, _+_, _-_, _≤_}
 use mathlib.Core.Path.{_≡_, refl, sym, ap, _∙_}
 use mathlib.Core.Bool.{Bool, true, false, not, _&&_, true≢false}
 use lib.Dec.{eqb, ltb, leb}
 use mathlib.Core.List.{List, [], _++_, append-assoc}
 use native.Mathlib.Omega.{arith}
 use lib.ListN.{length, take, drop, length-append}
+use lib.Seq.{take-at, drop-at}
 use borrow.Author.Tests.{eqb-true, ltb-false, leb-true, not-true}
 use Rattle.places.specs.Places.{joined}
 use Rattle.places.specs.Regions.{splice}
@@ -38,6 +39,13 @@ put-start old a f = record { place = omega arith; bytes = pasted-none a old ∙ 
 
 pub put-line : {old mid new : List ℕ} {a m e : ℕ} (f : ℕ → List ℕ) (i : ℕ) → e ≤ length old → Put old mid a m (joined i f) → Put mid new m e (f i) → Put old new a e (joined (i + 1) f)
 put-line {old} {mid} {new} {a} {m} {e} f i h p q = rw (joined-more i f) (put-put (joined i f) (f i) h p q)
+
+-- a text at the front, and what stands behind it
+pub put-front : {old new : List ℕ} {n : ℕ} (text : List ℕ) → Put old new 0 n text → (take n new ≡ text) × (drop n new ≡ drop n old)
+put-front {old} {new} {n} text p =
+    let long : length text ≡ n = let e = p .place in omega arith in
+    let none : n - 0 ≡ n = omega arith in
+    rw (p .bytes, none) (take-at text (drop n old) n long, drop-at text (drop n old) n long)
 
 -- what a printable answer has
 and-true : (a b : Bool) → (a && b) ≡ true → (a ≡ true) × (b ≡ true)

@@ -9,7 +9,7 @@ use lib.ListN.{length}
 use lib.Ieee.{Float}
 use borrow.Author.Tests.{ltb-true, ltb-false, eqb-true, lt-ltb}
 use Rattle.card_reader.specs.Card.{Row, IsCard, laidOver, cardText}
-use Rattle.card_reader.specs.Reading.{next, kept, after, keptAfter, judgementOf}
+use Rattle.card_reader.specs.Reading.{next, kept, after, keptAfter, HasRead, judgementOf}
 use Rattle.card_reader.specs.Judged.{Judged}
 use Rattle.card_reader.specs.declared.Head.{Head}
 use Rattle.card_reader.specs.declared.State.{State}
@@ -129,16 +129,12 @@ unfolding after keptAfter
 kept-parts s [] b xs = refl
 kept-parts s (x ∷ a) b xs = kept-parts (next s x) a b (kept s x xs)
 
--- a text has been read from the start, over a slice that held old: the state and the slice as they are now
-pub record HasRead (t : List ℕ) (old : List Float) (s : State) (new : List Float) : Type 0 where
-  pub state : s ≡ after (Names 0) t
-  pub slice : new ≡ keptAfter (Names 0) t old
-
 -- one part more
-pub read-more : (t u : List ℕ) (old : List Float) (s : State) (new : List Float) → HasRead t old s new → HasRead (t ++ u) old (after s u) (keptAfter s u new)
-read-more t u old s new h = record {
-  state = ap (λ (r : State). after r u) (h .state) ∙ sym (after-parts (Names 0) t u);
-  slice = (λ i. keptAfter (h .state i) u (h .slice i)) ∙ sym (kept-parts (Names 0) t u old);
+pub read-more : {t : List ℕ} {old : List Float} {s s₁ : State} {new new₁ : List Float} (u : List ℕ) → HasRead t old s new
+    → s₁ ≡ after s u → new₁ ≡ keptAfter s u new → HasRead (t ++ u) old s₁ new₁
+read-more {t} {old} {s} {s₁} {new} {new₁} u h e f = record {
+  state = e ∙ ap (λ (r : State). after r u) (h .state) ∙ sym (after-parts (Names 0) t u);
+  slice = f ∙ (λ i. keptAfter (h .state i) u (h .slice i)) ∙ sym (kept-parts (Names 0) t u old);
 }
 
 -- and at the end

@@ -1,5 +1,6 @@
 -- Reading a card a byte at a time: what each state and byte lead to. Definitions only; what they come to is said in Judged.
 use Prim.Native.Nat.{ℕ, _+_, _-_, _*_, _^_, _≤_, _<_}
+use mathlib.Core.Path.{_≡_}
 use mathlib.Core.Bool.{cond}
 use mathlib.Core.List.{List, [], _∷_, _++_}
 use lib.Dec.{ltb, eqb}
@@ -152,6 +153,11 @@ after s (b ∷ t) = after (next s b) t
 unfoldable pub keptAfter : State → List ℕ → List Float → List Float
 keptAfter s [] ps = ps
 keptAfter s (b ∷ t) ps = keptAfter (next s b) t (kept s b ps)
+
+-- a text has been read from the start, in one part or in several, over a slice that held old: the state and the slice as they are now
+pub record HasRead (text : List ℕ) (old : List Float) (s : State) (new : List Float) : Type 0 where
+  pub state : s ≡ after begun text
+  pub slice : new ≡ keptAfter begun text old
 
 -- what the whole text is judged: it has to end where a line of a point may begin
 abbrev pub judgementOf : State → Judgement

@@ -1,20 +1,20 @@
--- The state stays within its ranges, and each turn takes one from the reads that are left. Assumes nothing.
+-- What was read so far is one text, which the state and the points are of, and a read adds its part at the end (the law `read-more`). Each turn takes one from
+-- the reads that are left. Assumes nothing.
+use Prim.Native.Nat.{ℕ}
 use mathlib.Core.Path.{_≡_, refl, sym, subst}
+use mathlib.Core.List.{List, [], _++_}
 use native.Mathlib.Omega.{arith}
 use borrow.Author.Needs.{needs}
 use lib.ListN.{length}
 use lib.Dec.{lit<}
-use Rattle.card_reader.specs.Reading.{Held}
-use Rattle.card.specs.Input.{HeldIn}
+use Rattle.card_reader.specs.Reading.{Held, after, keptAfter, HasRead}
+use Rattle.card_reader.proofs.JudgedLaws.{read-more}
+use Rattle.card.specs.Input.{HeldIn, Took}
 use Rattle.card.proofs.read_all.Statement.{statement}
 use Rattle.card.proofs.read_all.Tie as tie
-use Rattle.card.proofs.read_all.Reads as reads
-use Rattle.card.proofs.read_all.Lts as lts
-use Rattle.card.proofs.read_some.Reads as read-some-reads
-use Rattle.card_reader.proofs.State.start.Reads as start-reads
 
 abbrev Inv-loop : tie.InvT-loop
-Inv-loop points₀ state₀ reads₀ points state reads = Held state × (length points ≡ length points₀)
+Inv-loop points₀ state₀ reads₀ points state reads = Held state × (length points ≡ length points₀) × ((t : List ℕ) × HasRead t points₀ state points)
 
 abbrev μ-loop : tie.MeasureT-loop
 μ-loop points₀ state₀ reads₀ points state reads = reads
@@ -23,7 +23,8 @@ start-requires : tie.Need-start-requires Inv-loop μ-loop
 start-requires c κs = search needs
 
 loop-holds : tie.Need-loop-holds Inv-loop μ-loop
-loop-holds c = (subst Held (sym (c .start .ensures)) (lit< tt), refl)
+unfolding after keptAfter
+loop-holds c = (subst Held (sym (c .start .ensures)) (lit< tt), refl, ([], record { state = c .start .ensures; slice = refl }))
 
 sub-reads : tie.Need-sub-reads Inv-loop μ-loop
 sub-reads c = search needs
@@ -38,7 +39,11 @@ loop-less : tie.Need-loop-less Inv-loop μ-loop
 loop-less c = search needs
 
 loop-again : tie.Need-loop-again Inv-loop μ-loop
-loop-again c = (subst HeldIn (c .before .next .given .1) (c .before .before .before .before .before .read-some .ensures), omega arith)
+loop-again c =
+    let read = c .before .before .before .before .before .read-some in
+    let so-far = c .before .before .before .before .before .before .before .before .loop .inv .2 in
+    let took = subst (Took _ _ _) (c .before .next .given .1) (read .ensures .1) in
+    (subst HeldIn (c .before .next .given .1) (read .ensures .0), omega arith, (so-far .0 ++ took .0, read-more (took .0) (so-far .1) (took .1) (took .2)))
 
 enum-known-last : tie.Need-enum-known-last Inv-loop μ-loop
 enum-known-last c = search needs
@@ -47,13 +52,16 @@ same-length : tie.Need-same-length Inv-loop μ-loop
 same-length c = search needs
 
 returns : tie.Need-returns Inv-loop μ-loop
-returns c = search needs
+returns c =
+    let so-far = c .before .before .before .before .before .before .before .before .loop .inv .2 in
+    let took = subst (Took _ _ _) (c .before .last .given .1) (c .before .before .before .before .before .read-some .ensures .1) in
+    (so-far .0, rw (took .0, took .1) (so-far .1))
 
 same-length-2 : tie.Need-same-length-2 Inv-loop μ-loop
 same-length-2 c = search needs
 
 returns-2 : tie.Need-returns-2 Inv-loop μ-loop
-returns-2 c = search needs
+returns-2 c = c .before .loop .inv .2
 
 pub read-all-spec : {M : Type 1} → statement M
 read-all-spec =
