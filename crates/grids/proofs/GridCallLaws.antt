@@ -261,7 +261,7 @@ module _ (call : SurfaceCall) (points : List Float) (h : Shape) (v : Spacing) wh
       counts-stop c e = given-both ∙ ap (λ (a : Verdict). gridChecked a (fitGridBy call g us vs)) e
 
       pub counts-pass : (w : List Float) → countsVerdict call h ≡ Pass → us ≡ uParamsIn h w → vs ≡ vParamsIn h w → gridFit call g ≡ rowsResult call h points w
-      unfolding gridChecked
+      unfolding gridChecked fitGridBy
       counts-pass w e a b =
           given-both
           ∙ ap (λ (z : Verdict). gridChecked z (fitGridBy call g us vs)) e

@@ -7,7 +7,7 @@ ghost use Rattle.tables.specs.BasisTable.{basisTable};
 ghost use Rattle.solving.specs.LeastSquares.{leastSquares};
 ghost use Rattle.tables.specs.Deviations.{ladderDistances, rowDistances, pointDeviations, largestOverRows, largestOverColumns};
 ghost use Rattle.tables.specs.Layout.{tableIn, dataPoint, FillsTable, HasSquares, Squared, HasFit};
-ghost use Rattle.solving.specs.Through.{Interpolates, Interpolated};
+ghost use Rattle.solving.specs.Through.{HasInterpolation, Interpolated};
 ghost use Rattle.tables.specs.Measures.{measured, HasGrid, LeavesSquares, gridDistancesIn};
 ghost use Rattle.pieces.specs.Fits.{tableOf, dataOf};
 use tables::Data;
@@ -96,7 +96,7 @@ pub extern "C" fn pieces_interpolation(
     band: usize,
     poles: usize,
 )
-    requires { ⌜ Interpolates (tableOf degree count firsts values) (dataOf kind lines across start end) band poles (now points) (now work) (now index) ⌝ }
+    requires { ⌜ HasInterpolation (tableOf degree count firsts values) (dataOf kind lines across start end) band poles (now points) (now work) (now index) ⌝ }
     ensures { λ _. ⌜ Interpolated (tableOf degree count firsts values) (dataOf kind lines across start end) band poles (now (points .entry)) (now (index .entry)) (now (work .entry)) (now (work .exit)) ⌝ }
 {
     let table = Table {

@@ -34,7 +34,8 @@ use Rattle.grids.specs.declared.GridAnswer.{GridAnswer}
 use Rattle.grids.specs.declared.GridAnswer.the-variants.{Fitted, Refused}
 use Rattle.checks.specs.declared.SurfaceCall.the-variants.{ApproximateWithin}
 use Rattle.checks.specs.GridChecks.{Grid, GridLent, gridRoomOf, gridChecks, GridShaped, GridRoomy, countsVerdict}
-use Rattle.grids.specs.Grids.{GridResult, uParameters, vParameters, alongV, alongU, rowShare, rowsWithin, fitGridBy, gridChecked, gridFitWith, gridFit, gridResultOf, gridAnswerOf, surfacePoles, gridHanded, GridCall, GridKept, ApproximatesGridWithin, HandsOutGrid}
+use Rattle.making.specs.Results.{fitTo}
+use Rattle.grids.specs.Grids.{GridResult, uParameters, vParameters, alongV, alongU, rowShare, rowsWithin, fitGridBy, gridChecked, gridFitWith, gridFit, gridResultOf, gridAnswerOf, surfacePoles, gridHanded, GridCall, GridKept, ApproximatesGridWithin, HandsOutGrid, rowAim, columnAim, afterRows, besideRows}
 use Rattle.grids.proofs.SurfaceLaws.{length-transposed}
 use Rattle.checks.proofs.GridCheckLaws.{Degrees, grid-gives, degrees-under}
 

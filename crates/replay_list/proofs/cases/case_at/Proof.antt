@@ -116,8 +116,8 @@ shared-slice-read-spacing-of c = search needs
 spacing-of-requires : tie.Need-spacing-of-requires
 spacing-of-requires c κs = search needs
 
-add-t31 : tie.Need-add-t31
-add-t31 c = search needs
+add-t32 : tie.Need-add-t32
+add-t32 c = search needs
 
 returns-9 : tie.Need-returns-9
 returns-9 c = record { entry = c .before .before .before .before .before .before .before .before .before .before .before .if3 .left; call = c .before .before .before .call-of .ensures; degree = refl; spacing = c .spacing-of .ensures; count = refl; given = refl; shorter = refl; start = refl; placed = record { within = let a = c .before .before .before .before .before .before .before .if7 .left in let b = c .before .before .before .before .before .before .before .before .before .before .before .before .before .before .before .before .if2 .left in omega arith; few = c .before .before .before .before .before .before .before .before .before .before .if4 .left; no-more = c .before .before .before .before .before .before .before .before .before .if5 .left; some = c .before .before .before .before .before .before .before .before .if6 .left; short = c .before .before .before .before .before .before .if8 .left } }
@@ -163,5 +163,5 @@ case-at-spec =
     mul-spacing-of
     shared-slice-read-spacing-of
     spacing-of-requires
-    add-t31
+    add-t32
     returns-9)
