@@ -2,15 +2,18 @@
 -- nothing.
 use mathlib.Core.Path.{_≡_, refl, sym, _∙_, ap}
 use mathlib.Core.Bool.{cond}
-use mathlib.Core.List.{List}
+use mathlib.Core.List.{List, [], _++_, append-nil}
 use mathlib.Core.Logic.{inl}
 use Prim.Native.Nat.{ℕ, _+_, _-_, _*_, _<_, _≤_}
 use native.Mathlib.Omega.{arith}
-use lib.ListN.{set}
-use lib.Seq.{getD-set-other}
+use native.Mathlib.Nat.{add-assoc}
+use lib.ListN.{length, set, take, drop, length-drop}
+use lib.Seq.{getD-set-other, getD-append-add, drop-length, length-take-le}
 use lib.Ieee.{Float, nan, eq}
 use Rattle.places.specs.Loops.{each}
-use Rattle.places.proofs.LoopLaws.{each-step, each-done, cond-both}
+use Rattle.places.specs.Regions.{part, splice}
+use Rattle.places.proofs.LoopLaws.{each-step, each-done, cond-both, cond-shift}
+use Rattle.places.proofs.RegionLaws.{splice-part, set-append-add}
 use Rattle.geometry.specs.Doubles.{_⊖_, _⊗_, _⊘_, nought, one, at}
 use Rattle.geometry.specs.declared.Point.{Point}
 use Rattle.geometry.specs.Points.{pointAt, putPoint, lessScaled, scaled}
@@ -37,6 +40,13 @@ module _ (from : ℕ) (factor near far : Float) (l : List Float) where
   pair-keeps x a b c =
       let p = getD-set-other l from x factor nan a in
       cond-both (λ (t : List Float). at t x) (eq factor nought) put twice (at l x) p (getD-set-other once (from + 2) x _ nan c ∙ getD-set-other put (from + 1) x _ nan b ∙ p)
+
+-- past a list's first part
+pair-append : (from : ℕ) (factor near far : Float) (p q : List Float) → lessPair (length p + from) factor near far (p ++ q) ≡ p ++ lessPair from factor near far q
+unfolding lessPair
+pair-append from factor near far p q =
+    rw (add-assoc (length p) from 1, add-assoc (length p) from 2, getD-append-add, getD-append-add, set-append-add, set-append-add, set-append-add)
+    (cond-shift (λ (t : List Float). p ++ t) (eq factor nought) _ _)
 
 -- two turns
 two : {S : Type 0} (k b : ℕ) (f : ℕ → S → S) (s : S) → b ≡ k + 3 → each (k + 1) b f s ≡ f (k + 2) (f (k + 1) s)
@@ -90,24 +100,51 @@ module _ (n k : ℕ) (l : List Float) (inside : k + 2 < n) where
       ∙ ap (eliminateRow 2 n k (k + 2)) (row (k + 1) (5 * k + 6) l (omega arith) (omega arith) (omega arith) (λ x h. refl))
       ∙ row (k + 2) (5 * k + 10) first (omega arith) (omega arith) (omega arith) (λ x h. pair-keeps _ _ _ _ l x (λ e. omega arith) (λ e. omega arith) (λ e. omega arith))
 
--- the two steps of the program, from what is carried
-module _ (n k : ℕ) (row : Ahead) (l mid out : List Float) (inside : k + 2 < n) (carried : Carried k row l)
-    (upper : mid ≡ lessPair (5 * k + 6) (row .below ⊗ (one ⊘ row .diagonal)) (row .near) (row .far) l)
-    (lower : out ≡ lessPair (5 * k + 10) (at mid (5 * k + 10) ⊗ (one ⊘ row .diagonal)) (row .near) (row .far) mid) where
-  pub pairs-eliminate : out ≡ eliminate 2 n k l
-  pairs-eliminate = rw (lower, upper, carried .diagonal, carried .below, carried .near, carried .far) (sym (eliminate-pairs n k l inside))
+-- the two steps of the program in the rest of the band, which begins after the pivot's row, from what is carried
+module _ (n k : ℕ) (row : Ahead) (l mid out : List Float) (inside : k + 2 < n) (fits : 5 * k + 5 ≤ length l) (carried : Carried k row l)
+    (upper : mid ≡ lessPair 1 (row .below ⊗ (one ⊘ row .diagonal)) (row .near) (row .far) (part (5 * k + 5) (length l) l))
+    (lower : out ≡ lessPair 5 (at mid 5 ⊗ (one ⊘ row .diagonal)) (row .near) (row .far) mid) where
+  abbrev above : List Float
+  above = take (5 * k + 5) l
 
-  pub pairs-carry : (next : Ahead) → next .diagonal ≡ at mid (5 * k + 6 + 1) → next .near ≡ at mid (5 * k + 6 + 2) → next .far ≡ at out (5 * k + 9)
-      → next .below ≡ at out (5 * k + 10 + 1) → next .middle ≡ at out (5 * k + 10 + 2) → next .last ≡ at out (5 * k + 13) → Carried (k + 1) next out
+  -- the band with the rest put back
+  whole : (rest : List Float) → splice (5 * k + 5) (length l) rest l ≡ above ++ rest
+  whole rest =
+      let none : drop (length l - (5 * k + 5)) (drop (5 * k + 5) l) ≡ [] = rw (← length-drop) (drop-length (drop (5 * k + 5) l)) in
+      rw (none, append-nil)
+
+  -- place x of the rest is place 5 k + 5 + x of the band
+  after : (x p : ℕ) → 5 * k + 5 + x ≡ p → length above + x ≡ p
+  after x p e = omega (arith, length-take-le (5 * k + 5) l fits)
+
+  stands : (rest : List Float) (x p : ℕ) → 5 * k + 5 + x ≡ p → at rest x ≡ at (above ++ rest) p
+  stands rest x p e = rw (← after x p e) (sym (getD-append-add above rest x nan))
+
+  step : (rest : List Float) (from p : ℕ) (factor : Float) → 5 * k + 5 + from ≡ p
+      → above ++ lessPair from factor (row .near) (row .far) rest ≡ lessPair p factor (row .near) (row .far) (above ++ rest)
+  step rest from p factor e = rw (← after from p e) (sym (pair-append from factor (row .near) (row .far) above rest))
+
+  upper-whole : above ++ mid ≡ lessPair (5 * k + 6) (row .below ⊗ (one ⊘ row .diagonal)) (row .near) (row .far) l
+  upper-whole =
+      let rest : List Float = part (5 * k + 5) (length l) l in
+      rw upper (step rest 1 (5 * k + 6) _ (omega arith)) ∙ ap (lessPair (5 * k + 6) _ (row .near) (row .far)) (sym (whole rest) ∙ splice-part (5 * k + 5) (length l) l)
+
+  pub pairs-eliminate : splice (5 * k + 5) (length l) out l ≡ eliminate 2 n k l
+  pairs-eliminate =
+      rw (whole out, lower, step mid 5 (5 * k + 10) _ (omega arith), stands mid 5 (5 * k + 10) (omega arith), upper-whole, carried .diagonal, carried .below, carried .near, carried .far)
+      (sym (eliminate-pairs n k l inside))
+
+  pub pairs-carry : (next : Ahead) → next .diagonal ≡ at mid 2 → next .near ≡ at mid 3 → next .far ≡ at out 4 → next .below ≡ at out 6 → next .middle ≡ at out 7 → next .last ≡ at out 8
+      → Carried (k + 1) next (splice (5 * k + 5) (length l) out l)
   pairs-carry next a b c d e f =
-      let kept : (x : ℕ) → x < 5 * k + 10 → at mid x ≡ at out x = λ x h. sym (ap (λ (t : List Float). at t x) lower ∙ pair-keeps _ _ _ _ mid x (λ e. omega arith) (λ e. omega arith) (λ e. omega arith)) in
-      record {
-        diagonal = a ∙ kept (5 * k + 6 + 1) (omega arith) ∙ ap (at out) (omega arith);
-        near = b ∙ kept (5 * k + 6 + 2) (omega arith) ∙ ap (at out) (omega arith);
-        far = c ∙ ap (at out) (omega arith);
-        below = d ∙ ap (at out) (omega arith);
-        middle = e ∙ ap (at out) (omega arith);
-        last = f ∙ ap (at out) (omega arith);
+      let kept : (x : ℕ) → x < 5 → at mid x ≡ at out x = λ x h. sym (ap (λ (t : List Float). at t x) lower ∙ pair-keeps 5 _ _ _ mid x (λ e. omega arith) (λ e. omega arith) (λ e. omega arith)) in
+      rw (whole out) record {
+        diagonal = a ∙ kept 2 (omega arith) ∙ stands out 2 _ (omega arith);
+        near = b ∙ kept 3 (omega arith) ∙ stands out 3 _ (omega arith);
+        far = c ∙ stands out 4 _ (omega arith);
+        below = d ∙ stands out 6 _ (omega arith);
+        middle = e ∙ stands out 7 _ (omega arith);
+        last = f ∙ stands out 8 _ (omega arith);
       }
 
 -- ---- points

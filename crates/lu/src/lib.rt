@@ -12,7 +12,7 @@ ghost use Rattle.lu.specs.BelowPivot.{pivotRow, lessPlaces, clearRow, cl
 ghost use Rattle.bands.specs.Shapes.{HasRow, Solvable};
 use geometry::Point;
 
-// Puts the multiplier at `at`, and takes that multiple of what stands after the pivot off the `count` places after it.
+// Puts the multiplier at `at`, and where it is not 0 takes that multiple of what stands after the pivot off the `count` places after it.
 fn less_places(rest: &mut [f64], at: usize, count: usize, pivot: &[f64], multiplier: f64)
     requires { ⌜ (count ≤ length (now pivot)) × (at + count < length (now rest)) ⌝ }
     ensures { λ _. ⌜ now (rest .exit) ≡ lessPlaces at count (now (pivot .entry)) multiplier (now (rest .entry)) ⌝ }

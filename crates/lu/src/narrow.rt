@@ -54,33 +54,27 @@ fn less_pair(
     Pair { x: u, y: v }
 }
 
-// Pivot k, above two rows that reach its column, and what the next pivot needs.
+// Pivot k, above two rows that reach its column, and what the next pivot needs. Its row stays behind; the rest of the band is lent on as a part to be written.
 fn eliminate_ahead(band: &mut [f64], n: usize, k: usize, row: Ahead) -> Ahead
     requires { ⌜ (k + 2 < n) × (n * 5 ≤ length (now band)) × Carried k row (now band) ⌝ }
     ensures { λ r. ⌜ (now (band .exit) ≡ eliminate 2 n k (now (band .entry))) × Carried (k + 1) r (now (band .exit)) ⌝ }
 {
-    let start = 5 * k;
+    let below = 5 * k + 5;
+    let rest = &mut band[below..];
     let inverse = 1.0 / row.diagonal;
-    let first = less_pair(
-        band,
-        start + 6,
-        row.below * inverse,
-        row.middle,
-        row.last,
-        row.near,
-        row.far,
-    );
-    let factor = band[start + 10] * inverse;
-    let x = band[start + 11];
-    let y = band[start + 12];
-    let second = less_pair(band, start + 10, factor, x, y, row.near, row.far);
+    let factor = row.below * inverse;
+    let first = less_pair(rest, 1, factor, row.middle, row.last, row.near, row.far);
+    let factor = rest[5] * inverse;
+    let x = rest[6];
+    let y = rest[7];
+    let second = less_pair(rest, 5, factor, x, y, row.near, row.far);
     Ahead {
         diagonal: first.x,
         near: first.y,
-        far: band[start + 9],
+        far: rest[4],
         below: second.x,
         middle: second.y,
-        last: band[start + 13],
+        last: rest[8],
     }
 }
 
