@@ -12,18 +12,19 @@ use borrow.Author.Tests.{eq-eqb, ne-eqb, le-leb}
 use lib.Dec.{T, eqb}
 use lib.IntN.{pos}
 use lib.ListN.{length, set, take, drop, length-append, length-set, List·getD-append}
-use lib.Seq.{getD-at, ext-getD, take-at, drop-at}
+use lib.Seq.{getD-at, ext-getD, take-at, drop-at, drop-append-add, drop-drop}
 use lib.Ieee.{Float, nan, binary64, le, inFloat}
 use Rattle.places.specs.Places.{laid, listOf, someBelow}
-use Rattle.places.proofs.PlaceLaws.{length-listOf, listOf-at, listOf-same, laid-front, laid0-next, laid-none, laid-same, some-none, some-more, laid-put}
+use Rattle.places.proofs.PlaceLaws.{length-listOf, listOf-at, listOf-same, listOf-all, laid-front, laid-above, laid0-next, laid-none, laid-same, some-none, some-more, laid-put}
 use Rattle.geometry.specs.Doubles.{_⊕_, _⊗_, _⊘_, nought, one, at, sumBelow}
 use Rattle.geometry.specs.Points.{pointAt, distance}
 use Rattle.geometry.specs.declared.Point.{Point}
 use Rattle.knots.specs.declared.Spacing.{Spacing}
+use Rattle.knots.specs.declared.parameters.LineChords.{LineChords}
 use Rattle.knots.specs.declared.parameters.LineSums.{LineSums}
 use Rattle.knots.specs.Parameters.{confusion, chords, stepOf, stepSums, runningSums, fromZeroToOne, pointParameters}
 use Rattle.knots.specs.Lines.{lineOf}
-use Rattle.knots.specs.Calls.{lineSums, Found}
+use Rattle.knots.specs.Calls.{lineChords, lineSums, Found}
 
 -- a value that a test may leave out: where there is one, it is that value
 pub unless-some : {A : Type 0} (b : Bool) (x y : A) → cond b none (some x) ≡ some y → x ≡ y
@@ -82,7 +83,17 @@ pub below-more : (f : ℕ → Float) (k : ℕ) → sumBelow (k + 1) f ≡ sumBel
 unfolding sumBelow
 below-more f k = rw (add-one k)
 
--- ---- the sums of a line, taken up chord by chord
+-- sums of the same values
+pub sums-same : (f g : ℕ → Float) (n : ℕ) → ((k : ℕ) → k < n → f k ≡ g k) → runningSums f n ≡ runningSums g n
+unfolding runningSums
+sums-same f g zero e = refl
+sums-same f g (suc n) e = rw (sums-same f g n (λ k h. e k (omega arith)), e n (omega arith))
+
+pub length-chords : (n : ℕ) (point : ℕ → Point) → length (chords n point) ≡ n - 1
+unfolding chords
+length-chords n point = length-listOf (n - 1) _
+
+-- ---- a line's chords, taken up one by one
 
 abbrev pub stepAt : Spacing → List Float → ℕ → Float
 stepAt v ds k = stepOf v (at ds k)
@@ -90,43 +101,85 @@ stepAt v ds k = stepOf v (at ds k)
 abbrev pub confusedAt : List Float → ℕ → Bool
 confusedAt ds k = le (at ds k) confusion
 
--- what stands where k of the chords ds are summed up
-pub record Summed (v : Spacing) (ds out₀ : List Float) (k : ℕ) (out : List Float) (chord total : Float) (confused : Bool) : Type 0 where
+-- what stands where k of the chords ds are taken up
+pub record Chorded (ds out₀ : List Float) (k : ℕ) (out : List Float) (chord : Float) (confused : Bool) : Type 0 where
   pub long : length out ≡ length out₀
   pub chord-is : chord ≡ sumBelow k (at ds)
-  pub total-is : total ≡ sumTo (stepAt v ds) k
   pub confused-is : confused ≡ someBelow k (confusedAt ds)
-  pub out-is : out ≡ laid 0 k (sumTo (stepAt v ds)) out₀
+  pub out-is : out ≡ laid 0 k (at ds) out₀
 
-module _ (v : Spacing) (ds out₀ : List Float) where
-  pub summed-none : Summed v ds out₀ 0 out₀ nought nought false
-  summed-none =
+module _ (ds out₀ : List Float) where
+  pub chorded-none : Chorded ds out₀ 0 out₀ nought false
+  chorded-none =
       record {
         long = refl;
         chord-is = sym (below-none (at ds));
-        total-is = sym (sum-none (stepAt v ds));
         confused-is = sym (some-none (confusedAt ds));
-        out-is = sym (laid-none 0 (sumTo (stepAt v ds)) out₀);
+        out-is = sym (laid-none 0 (at ds) out₀);
       }
 
-  module _ (k : ℕ) (out : List Float) (chord total : Float) (confused : Bool) (s : Summed v ds out₀ k out chord total confused) where
-    -- the sum before chord k is stored, and the chord d is added
-    pub summed-next : (d e : Float) → d ≡ at ds k → e ≡ stepOf v d → Summed v ds out₀ (k + 1) (set out k total) (chord ⊕ d) (total ⊕ e) (confused || le d confusion)
-    summed-next d e h g =
+  module _ (k : ℕ) (out : List Float) (chord : Float) (confused : Bool) (s : Chorded ds out₀ k out chord confused) where
+    -- the chord d is stored
+    pub chorded-next : (d : Float) → d ≡ at ds k → Chorded ds out₀ (k + 1) (set out k d) (chord ⊕ d) (confused || le d confusion)
+    chorded-next d h =
         record {
           long = simp length-set (s .long);
           chord-is = rw (below-more, ← h, s .chord-is);
-          total-is = rw (sum-more, ← h, ← g, s .total-is);
           confused-is = rw (some-more, ← h, s .confused-is);
-          out-is = laid0-next k (sumTo (stepAt v ds)) out₀ out total (s .out-is) (s .total-is);
+          out-is = laid0-next k (at ds) out₀ out d (s .out-is) h;
+        }
+
+-- n - 1 chords in the first places
+pub chorded-all : (n : ℕ) (point : ℕ → Point) (out₀ out : List Float) → n ≤ length out₀ → out ≡ laid 0 (n - 1) (at (chords n point)) out₀ → out ≡ chords n point ++ drop (n - 1) out₀
+chorded-all n point out₀ out h e =
+    e ∙ laid-front (n - 1) (at (chords n point)) out₀ (omega arith) ∙ ap (λ (l : List Float). l ++ drop (n - 1) out₀) (listOf-all (n - 1) (chords n point) nan (length-chords n point))
+
+-- ---- the steps over the chords ds, summed up one by one in the chords' places
+
+pub record Stepped (v : Spacing) (ds : List Float) (k : ℕ) (out : List Float) (total : Float) : Type 0 where
+  pub long : length out ≡ length ds
+  pub total-is : total ≡ sumTo (stepAt v ds) k
+  pub out-is : out ≡ laid 0 k (sumTo (stepAt v ds)) ds
+
+module _ (v : Spacing) (ds : List Float) where
+  pub stepped-none : Stepped v ds 0 ds nought
+  stepped-none = record { long = refl; total-is = sym (sum-none (stepAt v ds)); out-is = sym (laid-none 0 (sumTo (stepAt v ds)) ds) }
+
+  module _ (k : ℕ) (out : List Float) (total : Float) (s : Stepped v ds k out total) where
+    -- chord k still stands in its place; the sum before it is stored there, and its step is added
+    pub stepped-next : (e : Float) → e ≡ stepOf v (at out k) → Stepped v ds (k + 1) (set out k total) (total ⊕ e)
+    stepped-next e g =
+        let h : at out k ≡ at ds k = rw (s .out-is) (laid-above 0 k (sumTo (stepAt v ds)) ds k nan (omega arith)) in
+        record {
+          long = simp length-set (s .long);
+          total-is = rw (sum-more, ← h, ← g, s .total-is);
+          out-is = laid0-next k (sumTo (stepAt v ds)) ds out total (s .out-is) (s .total-is);
         }
 
     -- the last sum is stored
-    pub summed-all : k < length out₀ → set out k total ≡ runningSums (stepAt v ds) k ++ drop (k + 1) out₀
-    summed-all h =
-        laid0-next k (sumTo (stepAt v ds)) out₀ out total (s .out-is) (s .total-is)
-        ∙ laid-front (k + 1) (sumTo (stepAt v ds)) out₀ (omega arith)
+    pub stepped-all : k < length ds → set out k total ≡ runningSums (stepAt v ds) k ++ drop (k + 1) ds
+    stepped-all h =
+        laid0-next k (sumTo (stepAt v ds)) ds out total (s .out-is) (s .total-is)
+        ∙ laid-front (k + 1) (sumTo (stepAt v ds)) ds (omega arith)
         ∙ rw (← sums-listed (stepAt v ds) k)
+
+-- what stands behind n - 1 chords is no matter to their sums
+pub steps-front : (v : Spacing) (n : ℕ) (ds rest : List Float) → length ds ≡ n - 1 → stepSums v n (ds ++ rest) ≡ stepSums v n ds
+unfolding stepSums
+steps-front v n ds rest l = sums-same _ _ (n - 1) (λ k h. ap (stepOf v) (List·getD-append ds rest nan k (omega arith)))
+
+-- what a line is summed up to, from its chords and then their steps
+pub line-summed : (v : Spacing) (n : ℕ) (point : ℕ → Point) (out out₁ out₂ : List Float) (line : LineChords) (total : Float) → 1 ≤ n
+    → (line ≡ lineChords n point) × (out₁ ≡ chords n point ++ drop (n - 1) out) → (total ≡ at (stepSums v n out₁) (n - 1)) × (out₂ ≡ stepSums v n out₁ ++ drop n out₁)
+    → (_≡_ {A = LineSums} (record { length = line .length; total = total; confused = line .confused }) (lineSums v n point)) × (out₂ ≡ stepSums v n (chords n point) ++ drop n out)
+unfolding lineChords lineSums
+line-summed v n point out out₁ out₂ line total h (e, f) (t, g) =
+    let ds : List Float = chords n point in
+    let long : length ds ≡ n - 1 = length-chords n point in
+    let m : n - 1 + 1 ≡ n = omega arith in
+    let same : stepSums v n out₁ ≡ stepSums v n ds = ap (stepSums v n) f ∙ steps-front v n ds (drop (n - 1) out) long in
+    let rest : drop n out₁ ≡ drop n out = ap (drop n) f ∙ rw m at (rw long at (drop-append-add ds (drop (n - 1) out) 1) ∙ drop-drop 1 (n - 1) out) in
+    (rw (e, t, same), g ∙ rw (same, rest))
 
 -- chord k of a line
 pub chord-of : (points : List Float) (start stride n k : ℕ) (d : Float) → k < n - 1 → d ≡ distance (pointAt points (start + stride * k + stride)) (pointAt points (start + stride * k))

@@ -10,6 +10,7 @@ use Rattle.places.specs.Places.{laid, someBelow}
 use Rattle.geometry.specs.declared.Point.{Point}
 use Rattle.geometry.specs.Doubles.{at, sumBelow}
 use Rattle.knots.specs.declared.Spacing.{Spacing}
+use Rattle.knots.specs.declared.parameters.LineChords.{LineChords}
 use Rattle.knots.specs.declared.parameters.LineSums.{LineSums}
 use Rattle.knots.specs.Parameters.{confusion, chords, stepSums, Lines}
 use Rattle.knots.specs.Knots.{distinctKnots, knotAt, multiplicityAt}
@@ -26,6 +27,12 @@ pub record HasLines (points : List Float) (lines pitch n stride : ℕ) : Type 0 
   pub two : 2 ≤ n
   pub few : lines ≤ 2 ^ 53
   pub last : 3 * ((lines - 1) * pitch + stride * (n - 1)) + 3 ≤ length points
+
+-- What the chords of a line of n points come to: their length, and whether two neighbours are confused
+unfoldable pub lineChords : ℕ → (ℕ → Point) → LineChords
+lineChords n point =
+    let ds = chords n point in
+    record { length = sumBelow (n - 1) (at ds); confused = someBelow (n - 1) (λ k. le (at ds k) confusion) }
 
 -- What a line of n points is summed up to, beside its running sums: the length of its chords, its last running sum, and whether two neighbours are confused
 unfoldable pub lineSums : Spacing → ℕ → (ℕ → Point) → LineSums

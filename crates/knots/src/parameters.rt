@@ -14,12 +14,18 @@ ghost use Rattle.geometry.specs.Doubles.{_⊕_, _⊗_, nought, at};
 ghost use Rattle.geometry.specs.Points.{pointAt, distance};
 ghost use Rattle.knots.specs.Parameters.{stepOf, chords, stepSums, fromZeroToOne, pointParameters, sharedParameters, addLine, addedLines};
 ghost use Rattle.knots.specs.Lines.{lineOf, linesOf};
-ghost use Rattle.knots.specs.Calls.{HasLine, HasLines, lineSums, Found, Added};
+ghost use Rattle.knots.specs.Calls.{HasLine, HasLines, lineChords, lineSums, Found, Added};
 
 // What a line is summed up to: the length of its chords, its last running sum, and whether two neighbours are confused.
 pub struct LineSums {
     pub length: f64,
     pub total: f64,
+    pub confused: bool,
+}
+
+// What a line's chords come to: their length, and whether two neighbours are confused.
+pub struct LineChords {
+    pub length: f64,
     pub confused: bool,
 }
 
@@ -43,7 +49,39 @@ fn chord_at(points: &[f64], k: usize, stride: usize) -> f64
     next.distance(here)
 }
 
-// The running sums of a line's steps, in the first n places of `out`.
+// The chords of a line of n points, in the first n - 1 places of `out`.
+fn line_chords(points: &[f64], start: usize, stride: usize, n: usize, out: &mut [f64]) -> LineChords
+    requires { ⌜ HasLine (now points) start stride n × (n ≤ length (now out)) ⌝ }
+    ensures { λ r. ⌜ (r ≡ lineChords n (lineOf (now (points .entry)) start stride)) × (now (out .exit) ≡ chords n (lineOf (now (points .entry)) start stride) ++ drop (n - 1) (now (out .entry))) ⌝ }
+{
+    let mut length = 0.0;
+    let mut confused = false;
+    for k in 0..n - 1 {
+        let d = chord_at(points, start + stride * k, stride);
+        out[k] = d;
+        length += d;
+        confused = confused | (d <= CONFUSION);
+    }
+    LineChords { length, confused }
+}
+
+// The running sums of the steps over the n - 1 chords in the first places of `out`, in its first n places; the last of them.
+fn sum_steps(out: &mut [f64], n: usize, spacing: Spacing) -> f64
+    requires { ⌜ (1 ≤ n) × (n ≤ length (now out)) ⌝ }
+    ensures { λ r. ⌜ (r ≡ at (stepSums spacing n (now (out .entry))) (n - 1)) × (now (out .exit) ≡ stepSums spacing n (now (out .entry)) ++ drop n (now (out .entry))) ⌝ }
+{
+    let last = n - 1;
+    let mut total = 0.0;
+    for k in 0..last {
+        let d = out[k];
+        out[k] = total;
+        total += step(d, spacing);
+    }
+    out[last] = total;
+    total
+}
+
+// The running sums of a line's steps, in the first n places of `out`. The chords come first, each on its own, so that no root waits for another.
 fn line_sums(
     points: &[f64],
     start: usize,
@@ -55,22 +93,12 @@ fn line_sums(
     requires { ⌜ HasLine (now points) start stride n × (n ≤ length (now out)) ⌝ }
     ensures { λ r. ⌜ (r ≡ lineSums spacing n (lineOf (now (points .entry)) start stride)) × (now (out .exit) ≡ stepSums spacing n (chords n (lineOf (now (points .entry)) start stride)) ++ drop n (now (out .entry))) ⌝ }
 {
-    let last = n - 1;
-    let mut length = 0.0;
-    let mut total = 0.0;
-    let mut confused = false;
-    for k in 0..last {
-        out[k] = total;
-        let d = chord_at(points, start + stride * k, stride);
-        length += d;
-        total += step(d, spacing);
-        confused = confused | (d <= CONFUSION);
-    }
-    out[last] = total;
+    let line = line_chords(points, start, stride, n, out);
+    let total = sum_steps(out, n, spacing);
     LineSums {
-        length,
+        length: line.length,
         total,
-        confused,
+        confused: line.confused,
     }
 }
 
