@@ -63,7 +63,7 @@ pub fn compare(count: u64, seed: u64) -> u64 {
 
 pub fn bench() {
     let mut random = Random::new(5);
-    for (n, h) in [(64, 3), (64, 10), (256, 3), (256, 10), (1024, 3), (1024, 10)] {
+    for (n, h) in [(64, 2), (64, 3), (64, 10), (256, 2), (256, 3), (256, 10), (1024, 2), (1024, 3), (1024, 10)] {
         let ratio = |what: &str, theirs: f64, mine: f64| println!("{what}, n {n}, h {h}, us: ours {:.2}, the Rust's {:.2}, ratio {:.2}", mine * 1e6, theirs * 1e6, mine / theirs);
         let right = points(&mut random, n);
         for symmetric in [true, false] {
