@@ -1,7 +1,8 @@
 /* Curves from colour ladders and surfaces from colour grids, for C. Link target/staticlib/libinterface.a (`rt staticlib interface`) on x86-64.
  *
  * A slice is lent as a pointer and the number of its places. Points and poles have three places each (L*, a*, b*). No function
- * keeps a pointer, allocates, or writes outside the slices that it is lent. Each takes every input and ends.
+ * keeps a pointer, allocates, or writes outside the slices that it is lent. The slices of a call do not overlap; a pointer is
+ * aligned and not null, also where its length is 0. With such slices each function takes every input and ends.
  *
  * The result is 0, or the number of a refusal:
  *   1  fewer than 2 points; grid: fewer than 2 rows or columns

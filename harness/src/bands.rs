@@ -1,4 +1,4 @@
-//! The band solvers beside the Rust's: random and damaged matrices, and the normal equations of real fits; and their times.
+//! The band solvers beside the Rust's: random and damaged matrices; and their times.
 use crate::Point3D;
 use crate::curves::fitting::pieces;
 use crate::ours;

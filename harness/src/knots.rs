@@ -6,7 +6,7 @@ use crate::random::{Random, all_same};
 
 pub fn compare(count: u64, seed: u64) -> u64 {
     let mut random = Random::new(seed);
-    let (mut different, mut refused, mut falling) = (0u64, 0u64, 0u64);
+    let (mut different, mut refused, mut falling, mut directions) = (0u64, 0u64, 0u64, 0u64);
     let mut tell = |what: &str, same: bool| {
         if !same {
             different += 1;
@@ -30,11 +30,8 @@ pub fn compare(count: u64, seed: u64) -> u64 {
             let flat = averaged_knots(&params, degree);
             falling += flat.windows(2).any(|w| w[1] < w[0]) as u64;
             tell("averaged knots", all_same(&flat, &ours::averaged_knots(&params, degree)));
-            let spread = approximation_knots(&params, poles.min(n - 1).max(degree + 1), degree);
-            if poles < n {
-                let spread = approximation_knots(&params, poles, degree);
-                tell("spread knots", all_same(&spread, &ours::approximation_knots(&params, poles, degree)));
-            }
+            let spread = approximation_knots(&params, poles, degree);
+            tell("spread knots", all_same(&spread, &ours::approximation_knots(&params, poles, degree)));
             for list in [&flat, &spread] {
                 let (k, m) = pieces::compress_knots(list);
                 let (a, b) = ours::compress_knots(list);
@@ -53,7 +50,7 @@ pub fn compare(count: u64, seed: u64) -> u64 {
                 };
                 let mine = if by_rows { ours::shared_parameters(&places, rows, cols, cols, 1, centripetal) } else { ours::shared_parameters(&places, cols, 1, rows, cols, centripetal) };
                 tell("grid spacing", match (&theirs, &mine) { (Some(a), Some(b)) => all_same(a, b), (None, None) => true, _ => false });
-                refused += theirs.is_none() as u64;
+                directions += theirs.is_none() as u64;
             }
         }
         if round % 16 == 0 {
@@ -67,6 +64,6 @@ pub fn compare(count: u64, seed: u64) -> u64 {
             tell("runs of any doubles", all_same(&k, &a) && m == b);
         }
     }
-    println!("spacing and knots: {count} ladders, seed {seed}, {refused} refused, {falling} with averaged knots that fall: {different} different");
+    println!("spacing and knots: {count} ladders, seed {seed}, {refused} refused, {falling} with averaged knots that fall, {directions} directions of grids refused: {different} different");
     different
 }

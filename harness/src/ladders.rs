@@ -1,5 +1,5 @@
 //! Whole ladder calls beside the Rust's: number, mark, counts and every place of every lent slice; document 01's ladders to try; a list of calls with
-//! the Rust's answers; and the times of two of the calls.
+//! the Rust's answers; and the times of three of the calls.
 use crate::Point3D;
 use crate::curve_math::bspline::KnotVector;
 use crate::curves::fitting::pieces;
@@ -114,8 +114,9 @@ impl Fit {
 }
 
 /// The rare corners: whether a fit of so many points stands in each.
-const RARE: [(&str, fn(&Fit, usize) -> bool); 15] = [
+const RARE: [(&str, fn(&Fit, usize) -> bool); 16] = [
     ("unreadable deviations", |fit, _| fit.unreadable > 0),
+    ("unreadable deviations, not interpolated", |fit, _| fit.unreadable > 0 && fit.mark != 3),
     ("all unreadable, largest 0", |fit, n| fit.unreadable == n && fit.largest == 0.0),
     ("largest infinite", |fit, _| fit.largest.is_infinite()),
     ("averaged knots repeat", |fit, _| fit.mark == 3 && fit.repeats()),

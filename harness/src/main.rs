@@ -44,7 +44,7 @@ fn main() {
         Some("grids") => grids::compare(number(1, 20_000), number(2, 1)),
         Some("card") => ladders::cards::compare(number(1, 20_000), number(2, 1)),
         Some("all") => all::compare(number(1, 100_000), number(2, 1), number(3, 1)),
-        Some("try") => ladders::compare_stated() + grids::compare_stated(),
+        Some("try") => ladders::compare_stated() + grids::compare_stated() + readings::compare_stated(),
         Some("wrapper") => ladders::wrapped::compare(2_000, 1) + grids::wrapped::compare(500, 1) + readings::compare_wrapped(5_000, 1),
         Some("list") if words.len() == 2 => ladders::list(&words[1]),
         Some("stack") => {

@@ -161,7 +161,37 @@ fn difference(case: &Case, (theirs, point): (u32, [f64; 3])) -> Option<String> {
     let mut out = [7.0; 5];
     let ours = ours::read(&case.poles, case.degree, &case.knots, &case.mults, case.u, &mut out[..4]);
     let wanted = if theirs == 0 { [point[0], point[1], point[2], 7.0, 7.0] } else { [7.0; 5] };
-    (ours != theirs || !all_same(&out, &wanted)).then(|| format!("{ours} with {out:?}, not {theirs} with {wanted:?}"))
+    let short = (0..3).find(|&places| {
+        let mut out = [7.0; 3];
+        ours::read(&case.poles, case.degree, &case.knots, &case.mults, case.u, &mut out[..places]) != 9 || out != [7.0; 3]
+    });
+    let different = (ours != theirs || !all_same(&out, &wanted)).then(|| format!("{ours} with {out:?}, not {theirs} with {wanted:?}"));
+    different.or_else(|| short.map(|places| format!("not 9 with {places} places for the point")))
+}
+
+/// The smallest inputs of the reader's differences from the Rust, each with its number.
+pub fn compare_stated() -> u64 {
+    let case = |degree: usize, knots: &[f64], mults: &[u32], places: usize, u: f64| Case { degree, knots: knots.to_vec(), mults: mults.to_vec(), poles: vec![0.5; places], u };
+    let many: Vec<f64> = (0..1051).map(f64::from).collect();
+    let stated = [
+        ("poles of one place", 7, case(1, &[0.0, 1.0], &[2, 2], 1, 0.5)),
+        ("1,025 poles", 8, case(1, &[0.0, 1.0], &[2, 2], 3 * 1025, 0.5)),
+        ("1,051 knots", 8, case(1, &many, &[1; 1051], 6, 0.5)),
+        ("a multiplicity 0", 15, case(1, &[0.0, 1.0, 2.0], &[2, 0, 2], 6, 0.5)),
+        ("a knot not finite", 15, case(1, &[0.0, f64::INFINITY], &[2, 2], 6, 0.5)),
+        ("fewer than degree + 1 poles", 15, case(2, &[0.0, 1.0], &[2, 2], 3, 0.5)),
+        ("an empty range", 15, case(2, &[0.0, 1.0, 2.0], &[2, 2, 2], 9, 0.5)),
+        ("a parameter NaN", 15, case(1, &[0.0, 1.0], &[2, 2], 6, f64::NAN)),
+    ];
+    let mut different = 0;
+    for (what, number, case) in &stated {
+        let theirs = reference(case);
+        let unlike = (theirs.0 != *number).then(|| format!("the harness has {}", theirs.0)).or_else(|| difference(case, theirs));
+        unlike.iter().for_each(|unlike| println!("different: {what}: {unlike}"));
+        different += unlike.is_some() as u64;
+    }
+    println!("{} stated readings: {different} different", stated.len());
+    different
 }
 
 /// What differs between the reading of nigorzai.rs, the guarded one and the Rust's, if anything does.

@@ -1,6 +1,7 @@
 //! Tables, least squares, interpolation and deviations beside the Rust's, on ladders and grids of every kind; and their times.
 use crate::Point3D;
 use crate::curves::fitting::{BasisTable, approximation_knots, averaged_knots, interpolation, least_squares, pieces};
+use crate::ladders::fold;
 use crate::ours::{self, Lines, Work};
 use crate::points;
 use crate::random::{Random, all_same, least_seconds, same};
@@ -23,10 +24,6 @@ fn flat_knots(random: &mut Random, params: &[f64], degree: usize) -> Vec<f64> {
             flat
         }
     }
-}
-
-fn fold(deviations: &[f64]) -> f64 {
-    deviations.iter().fold(0.0f64, |a, &d| a.max(d))
 }
 
 /// How many of a grid's distances are NaN: the Rust keeps only the largest of a row.

@@ -33,7 +33,7 @@ pub fn passes(
 }
 
 // The fewest poles that the search finds below `last`.
-pub fn fewest_poles(
+pub fn fit_with_fewest_poles(
     work: &mut [f64],
     index: &mut [usize],
     points: &[f64],
@@ -72,7 +72,7 @@ pub fn fit_on_spread_knots(
     requires { ⌜ HasJob job (now points) (now work) (now index) × (job .table .degree < last) × (last ≤ job .table .count) ⌝ }
     ensures { λ r. ⌜ SpreadsBelow job (now (points .entry)) tolerance last (now (work .entry)) (now (work .exit)) (now (index .entry)) (now (index .exit)) r ⌝ }
 {
-    match fewest_poles(work, index, points, job, tolerance, last) {
+    match fit_with_fewest_poles(work, index, points, job, tolerance, last) {
         Found::Nothing => Reached::Missed,
         Found::At(m) => match crate::attempts::attempt_spread(work, index, points, job, m) {
             Attempt::Unfitted => Reached::Missed,

@@ -48,7 +48,7 @@ fn turn(
 }
 
 // Refinement: from a single Bézier piece, rounds of least squares and splitting, until a fit's largest deviation is within the tolerance.
-pub fn refine_within(
+pub fn fit_with_refined_knots(
     work: &mut [f64],
     index: &mut [usize],
     points: &[f64],

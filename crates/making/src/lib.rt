@@ -106,7 +106,7 @@ fn make_within(
     ensures { λ r. ⌜ Makes job (now (points .entry)) (fitBy (ApproximateWithin tolerance) (directionOf job (now (points .entry)) (now (work .entry)) (now (index .entry))))
         (now (work .entry)) (now (work .exit)) (now (index .entry)) (now (index .exit)) r ⌝ }
 {
-    match fitting::refining::refine_within(work, index, points, job, tolerance) {
+    match fitting::refining::fit_with_refined_knots(work, index, points, job, tolerance) {
         Reached::Missed => make_spread(work, index, points, job, tolerance),
         Reached::Met(l, m) => Made::Stands(Standing {
             mark: Mark::Refined(m.largest),
@@ -183,7 +183,7 @@ fn make_fewest(
     ensures { λ r. ⌜ Makes job (now (points .entry)) (accepted (fitWithinFewest (directionOf job (now (points .entry)) (now (work .entry)) (now (index .entry))) tolerance))
         (now (work .entry)) (now (work .exit)) (now (index .entry)) (now (index .exit)) r ⌝ }
 {
-    match fitting::refining::refine_within(work, index, points, job, tolerance) {
+    match fitting::refining::fit_with_refined_knots(work, index, points, job, tolerance) {
         Reached::Missed => make_spread(work, index, points, job, tolerance),
         Reached::Met(l, m) => make_fewer(work, index, points, job, tolerance, saved, l, m),
     }

@@ -1,3 +1,3 @@
--- The number of a spacing, and layouts by their numbers.
+-- A spacing by a bool, and layouts by their numbers.
 pub mod Spacings
 pub mod Fits

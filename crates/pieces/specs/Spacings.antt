@@ -1,4 +1,4 @@
--- A spacing by its number. Definitions only.
+-- A spacing by whether it is centripetal. Definitions only.
 use mathlib.Core.Bool.{Bool, true, false}
 use Rattle.knots.specs.declared.Spacing.{Spacing}
 use Rattle.knots.specs.declared.Spacing.the-variants.{Chordal, Centripetal}

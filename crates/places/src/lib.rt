@@ -37,15 +37,6 @@ pub fn copy(from: &[f64], to: &mut [f64])
     }
 }
 
-pub fn copy_index(from: &[usize], to: &mut [usize])
-    requires { ⌜ length (now from) ≤ length (now to) ⌝ }
-    ensures { λ _. ⌜ now (to .exit) ≡ now (from .entry) ++ drop (length (now (from .entry))) (now (to .entry)) ⌝ }
-{
-    for k in 0..from.len() {
-        to[k] = from[k];
-    }
-}
-
 // Copies the n places from `from` on to those from `to` on, which are others.
 pub fn copy_within(out: &mut [f64], from: usize, n: usize, to: usize)
     requires { ⌜ ((from + n ≤ to) ⊎ (to + n ≤ from)) × (from + n ≤ length (now out)) × (to + n ≤ length (now out)) ⌝ }

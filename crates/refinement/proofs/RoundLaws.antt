@@ -1,4 +1,4 @@
--- A round: the new knots taken in among the flat ones, and what it hands back. For callers: `refined-grows`, `refined-length`, `refined-ascending`, `round-stuck`,
+-- A round: the new knots taken in among the flat ones, and what it hands back. For callers: `refined-grows`, `refined-ascending`, `round-stuck`,
 -- `round-refined`, `regions-next`; what then stands in the work is in AfterLaws. Assumes nothing.
 use mathlib.Core.Path.{_≡_, refl, sym, _∙_, ap}
 use mathlib.Core.Bool.{Bool, true, false, cond, _||_}

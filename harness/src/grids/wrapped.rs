@@ -21,6 +21,7 @@ fn side(along: nigorzai::Direction) -> Side {
 /// What differs between the function and the guarded call. A refusal's cause is the reference's: its number must be the same.
 fn unlike(c: &Call) -> Option<String> {
     let mine = match (wrapped(c), answer(c)) {
+        (Ok(nigorzai::Surface { u, v, poles }), _) if u.poles() * v.poles() != poles.len() => return Some(format!("{} by {} poles", u.poles(), v.poles())),
         (Ok(nigorzai::Surface { u, v, poles }), _) => Ok(Fit { sides: [side(u), side(v)], poles: poles.concat() }),
         (Err(number), Err(refusal)) if refusal.number == number => Err(refusal),
         (Err(number), theirs) => return Some(format!("the refusal {number}, not {:?}", theirs.err())),

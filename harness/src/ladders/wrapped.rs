@@ -26,7 +26,15 @@ fn unwrapped(answer: &Result<nigorzai::Fit, u32>) -> Answer {
 /// What differs between the function and the guarded call, or in a reading at an end of the curve.
 fn unlike(c: &Call) -> Option<String> {
     let mine = wrapped(c);
-    let read = |fit: &nigorzai::Fit| [0.0, 1.0].iter().find_map(|&u| readings::unlike(&fit.poles, fit.along.degree, &fit.along.knots, &fit.along.mults, u));
+    let read = |fit: &nigorzai::Fit| {
+        let unlike = |u: f64| {
+            let bits = |at: Result<[f64; 3], u32>| at.map(|q| q.map(f64::to_bits));
+            let same = bits(fit.at(u)) == bits(nigorzai::read(&fit.poles, fit.along.degree, &fit.along.knots, &fit.along.mults, u));
+            (!same).then(|| format!("another point at {u}")).or_else(|| readings::unlike(&fit.poles, fit.along.degree, &fit.along.knots, &fit.along.mults, u))
+        };
+        let count = (fit.along.poles() != fit.poles.len()).then(|| format!("{} poles along it", fit.along.poles()));
+        count.or_else(|| [0.0, 1.0].iter().find_map(|&u| unlike(u)))
+    };
     let different = difference(c, &unwrapped(&mine)).map(|what| format!("the guarded call has {what}"));
     different.or_else(|| mine.as_ref().ok().and_then(read)).or_else(|| unlike_ends(c, &mine))
 }

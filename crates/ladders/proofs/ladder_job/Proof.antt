@@ -1,4 +1,4 @@
--- The numbers are small: the longest, 4 degree n, is bounded. Assumes nothing.
+-- The numbers are small: the longest product, 2 degree n, is bounded. Assumes nothing.
 use native.Mathlib.Omega.{arith}
 use Rattle.checks.proofs.CheckLaws.{small}
 use borrow.Author.Needs.{needs}

@@ -1,4 +1,4 @@
--- What the call ensures, at the spacing of the number. Assumes nothing.
+-- What the call ensures, at the spacing that the bool says. Assumes nothing.
 use borrow.Author.Needs.{needs}
 use Rattle.pieces.proofs.pieces_point_parameters.Statement.{statement}
 use Rattle.pieces.proofs.pieces_point_parameters.Tie as tie

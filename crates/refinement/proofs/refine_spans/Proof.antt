@@ -1,4 +1,4 @@
--- The worst deviations replace the deviations, which leaves the parameters and the flat knots as they are. Assumes nothing.
+-- The squares of the spans' worst deviations replace the squares, which leaves the parameters and the flat knots as they are. Assumes nothing.
 use mathlib.Core.Path.{_≡_, _∙_, ap}
 use mathlib.Core.List.{List}
 use Prim.Native.Nat.{_+_, _-_}

@@ -1,3 +1,4 @@
+-- Before turn r the first r functions of the next degree are laid, and `saved` is the first term of the one after them. Assumes nothing.
 use native.Mathlib.Omega.{arith}
 use Prim.Native.Nat.{ℕ, _+_, _-_, _≤_, _<_}
 use mathlib.Core.Path.{_≡_, refl, sym, ap, _∙_}

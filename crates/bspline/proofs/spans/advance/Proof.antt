@@ -1,3 +1,4 @@
+-- The search from s finds what that from `span` finds, since every span passed ends at or before u; last - s falls. Assumes nothing.
 use native.Mathlib.Omega.{arith}
 use Prim.Native.Nat.{_-_, _≤_}
 use mathlib.Core.Path.{_≡_, refl, sym, _∙_}

@@ -1,3 +1,4 @@
+-- The span that is sought stays among the `rest` spans from `span` on, and `rest` falls. Assumes nothing.
 use native.Mathlib.Omega.{arith}
 use Prim.Native.Nat.{_+_, _-_, _/_, _≤_}
 use mathlib.Core.Path.{_≡_, refl, sym, _∙_}

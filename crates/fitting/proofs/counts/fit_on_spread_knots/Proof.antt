@@ -5,10 +5,10 @@ use borrow.Author.Needs.{needs}
 use Rattle.fitting.proofs.counts.fit_on_spread_knots.Statement.{statement}
 use Rattle.fitting.proofs.counts.fit_on_spread_knots.Tie as tie
 use Rattle.fitting.proofs.attempts.attempt_spread.Reads as attempt-spread-reads
-use Rattle.fitting.proofs.counts.fewest_poles.Reads as fewest-poles-reads
+use Rattle.fitting.proofs.counts.fit_with_fewest_poles.Reads as fit-with-fewest-poles-reads
 
-fewest-poles-requires : tie.Need-fewest-poles-requires
-fewest-poles-requires c κs = search needs
+fit-with-fewest-poles-requires : tie.Need-fit-with-fewest-poles-requires
+fit-with-fewest-poles-requires c κs = search needs
 
 enum-told : tie.Need-enum-told
 enum-told c = search needs
@@ -20,7 +20,7 @@ attempt-spread-requires : tie.Need-attempt-spread-requires
 attempt-spread-requires c κs =
     let s = c .before .before .before .before .before .before .before .before .before .before .before .before .before .before .before in
     let a = s .args in
-    let f = c .before .before .before .before .before .before .before .before .before .fewest-poles in
+    let f = c .before .before .before .before .before .before .before .before .before .fit-with-fewest-poles in
     let b = found-between (a .job) (a .points .now) (a .tolerance) (a .last) (a .work .now) (f .last .0) (a .index .now) (f .last .1 .0) (s .pre .0) (f .result) (f .ensures) (c .before .before .before .m .given .0 .0) (c .before .before .before .m .given .1) (s .pre .2) in
     (has-found (a .job) (a .points .now) (a .tolerance) (a .last) (a .work .now) (f .last .0) (a .index .now) (f .last .1 .0) (s .pre .0) (f .result) (f .ensures), b .0, b .1)
 
@@ -34,7 +34,7 @@ add-t21 : tie.Need-add-t21
 add-t21 c =
     let s = c .before .before .before .before .before .before .before .before .before .before .before .before .before .before .before .before .before .before .before .before .before .before .before .before in
     let a = s .args in
-    let f = c .before .before .before .before .before .before .before .before .before .before .before .before .before .before .before .before .before .before .fewest-poles in
+    let f = c .before .before .before .before .before .before .before .before .before .before .before .before .before .before .before .before .before .before .fit-with-fewest-poles in
     let m = c .before .before .before .before .before .before .before .before .before .before .before .before .m .given in
     let b = found-between (a .job) (a .points .now) (a .tolerance) (a .last) (a .work .now) (f .last .0) (a .index .now) (f .last .1 .0) (s .pre .0) (f .result) (f .ensures) (m .0 .0) (m .1) (s .pre .2) in
     omega (arith, b .1, s .pre .0 .few, s .pre .0 .high)
@@ -43,7 +43,7 @@ add-t22 : tie.Need-add-t22
 add-t22 c =
     let s = c .before .before .before .before .before .before .before .before .before .before .before .before .before .before .before .before .before .before .before .before .before .before .before .before in
     let a = s .args in
-    let f = c .before .before .before .before .before .before .before .before .before .before .before .before .before .before .before .before .before .before .fewest-poles in
+    let f = c .before .before .before .before .before .before .before .before .before .before .before .before .before .before .before .before .before .before .fit-with-fewest-poles in
     let m = c .before .before .before .before .before .before .before .before .before .before .before .before .m .given in
     let b = found-between (a .job) (a .points .now) (a .tolerance) (a .last) (a .work .now) (f .last .0) (a .index .now) (f .last .1 .0) (s .pre .0) (f .result) (f .ensures) (m .0 .0) (m .1) (s .pre .2) in
     omega (arith, b .1, s .pre .0 .few, s .pre .0 .high)
@@ -58,7 +58,7 @@ returns : tie.Need-returns
 returns c =
     let s = c .before .before .before .before .before .before .before .before .before .before .before .before in
     let a = s .args in
-    let f = c .before .before .before .before .before .before .fewest-poles in
+    let f = c .before .before .before .before .before .before .fit-with-fewest-poles in
     spread-nothing (a .job) (a .points .now) (a .tolerance) (a .last) (a .work .now) (f .last .0) (a .index .now) (f .last .1 .0) (s .pre .0) (f .result) (f .ensures) (c .enum-told .given .1)
 
 same-length-3 : tie.Need-same-length-3
@@ -71,7 +71,7 @@ returns-2 : tie.Need-returns-2
 returns-2 c =
     let s = c .before .before .before .before .before .before .before .before .before .before .before .before .before .before .before .before .before .before .before .before .before .before in
     let a = s .args in
-    let f = c .before .before .before .before .before .before .before .before .before .before .before .before .before .before .before .before .fewest-poles in
+    let f = c .before .before .before .before .before .before .before .before .before .before .before .before .before .before .before .before .fit-with-fewest-poles in
     let t = c .before .before .before .before .before .before .attempt-spread in
     let m = c .before .before .before .before .before .before .before .before .before .before .m .given in
     spread-unfitted (a .job) (a .points .now) (a .tolerance) (a .last) (a .work .now) (f .last .0) (a .index .now) (f .last .1 .0) (s .pre .0) (f .result) (f .ensures) (m .0 .0) (m .1) (s .pre .2) (t .last .0) (t .last .1 .0) (t .result) (t .ensures) (c .enum-told2 .given .1)
@@ -86,7 +86,7 @@ returns-3 : tie.Need-returns-3
 returns-3 c =
     let s = c .before .before .before .before .before .before .before .before .before .before .before .before .before .before .before .before .before .before .before .before .before .before .before .before in
     let a = s .args in
-    let f = c .before .before .before .before .before .before .before .before .before .before .before .before .before .before .before .before .before .before .fewest-poles in
+    let f = c .before .before .before .before .before .before .before .before .before .before .before .before .before .before .before .before .before .before .fit-with-fewest-poles in
     let t = c .before .before .before .before .before .before .before .before .attempt-spread in
     let m = c .before .before .before .before .before .before .before .before .before .before .before .before .m .given in
     let x = c .before .before .x .given in
@@ -96,7 +96,7 @@ pub fit-on-spread-knots-spec : {M : Type 1} → statement M
 fit-on-spread-knots-spec =
     tie.close
     (tie.spec
-    fewest-poles-requires
+    fit-with-fewest-poles-requires
     enum-told
     enum-known-m
     attempt-spread-requires

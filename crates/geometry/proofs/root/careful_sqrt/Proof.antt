@@ -1,4 +1,4 @@
--- `root::careful_sqrt` meets its contract. Assumes nothing.
+-- NaN, zero, negative and infinite values by the laws of `Special`; every other pattern by `positive_bits`. Assumes nothing.
 use mathlib.Core.Path.{refl, sym, subst}
 use Prim.Native.Nat.{_<_}
 use lib.Dec.{T}

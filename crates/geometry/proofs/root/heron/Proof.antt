@@ -1,4 +1,4 @@
--- `root::heron` meets its contract. Assumes nothing.
+-- The mean of g and m / g is not below the root, and stays in the range. Assumes nothing.
 use borrow.Author.Needs.{needs}
 use Prim.Native.Nat.{_<_}
 use native.Mathlib.Nat.{lt-of-lt-of-le}

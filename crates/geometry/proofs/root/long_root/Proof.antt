@@ -1,4 +1,4 @@
--- `root::long_root` meets its contract. Assumes nothing.
+-- From the whole root of n one division gives that of n with 52 digits more. Assumes nothing.
 use borrow.Author.Needs.{needs}
 use native.Mathlib.Omega.{arith}
 use Rattle.geometry.proofs.Steps.{Limits, limits, as-is, one-less}

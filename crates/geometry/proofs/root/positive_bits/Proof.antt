@@ -1,4 +1,4 @@
--- `root::positive_bits` meets its contract. Assumes nothing.
+-- A pattern's digits and exponent, a subnormal's moved up until the digits are whole, and their root. Assumes nothing.
 use borrow.Author.Needs.{needs}
 use mathlib.Core.Path.{ap, _∙_}
 use native.Mathlib.Omega.{arith}

@@ -1,4 +1,4 @@
--- `root::root_bits` meets its contract. Assumes nothing.
+-- Half the exponent with the digits' whole root, and a rest above that root rounds up. Assumes nothing.
 use borrow.Author.Needs.{needs}
 use Prim.Native.Nat.{_≤_, _<_, _^_}
 use native.Mathlib.Omega.{arith}

@@ -1,4 +1,3 @@
-use native.Mathlib.Omega.{arith}
 -- Before turn j the first j inner knots are laid, and `sum` is the sum that knot j adds to. Assumes nothing.
 use mathlib.Core.Path.{_≡_, refl, sym, _∙_}
 use Prim.Native.Nat.{_+_, _-_, _≤_}

@@ -1,4 +1,3 @@
-use native.Mathlib.Omega.{arith}
 -- The sum of the parameters passed. Assumes nothing.
 use mathlib.Core.Path.{_≡_, sym, ap, _∙_}
 use Prim.Native.Nat.{ℕ, _+_, _-_, _≤_}

@@ -1,4 +1,3 @@
-use native.Mathlib.Omega.{arith}
 -- Before turn j the first j inner knots are laid; the parameters, which stand before them, are read as they were. Assumes nothing.
 use mathlib.Core.Path.{_≡_, refl, sym}
 use Prim.Native.Nat.{_+_, _-_, _≤_}

@@ -1,4 +1,3 @@
-use native.Mathlib.Omega.{arith}
 -- The lines' sums, then those sums rescaled by one reciprocal, then the test that they rise. Assumes nothing.
 use native.Mathlib.Omega.{arith}
 use mathlib.Core.Path.{_≡_, sym}

@@ -1,3 +1,4 @@
+-- The points are put, solved for in their place, and the end points put back: each step in the one region. Assumes nothing.
 use mathlib.Core.List.{List}
 use mathlib.Core.Path.{_∙_}
 use Prim.Native.Nat.{_≤_, _-_}
@@ -11,8 +12,6 @@ use Rattle.tables.proofs.KeptLaws.{data-wider, has-point, kept-point, pole-belo
 use Rattle.solving.proofs.ThroughLaws.{line-solved, solved-kept, line-first, first-kept, line-last}
 use Rattle.solving.proofs.through.interpolated_line.Statement.{statement}
 use Rattle.solving.proofs.through.interpolated_line.Tie as tie
-
--- The points are put, solved for in their place, and the end points put back: each step in the one region. Assumes nothing.
 
 put-line-requires : tie.Need-put-line-requires
 put-line-requires c κs = search needs

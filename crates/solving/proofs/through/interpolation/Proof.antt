@@ -1,3 +1,4 @@
+-- The invariant: the first r lines' poles stand at `poles`, solved with the factored matrix; all else is as it was. Assumes nothing.
 use mathlib.Core.Path.{_≡_, refl}
 use Prim.Native.Nat.{ℕ, _+_, _-_, _*_, _≤_}
 use native.Mathlib.Omega.{arith}
@@ -10,8 +11,6 @@ use Rattle.tables.proofs.KeptLaws.{data-wider}
 use Rattle.solving.proofs.ThroughLaws.{linesTo, lines-start, lines-turn, interpolated}
 use Rattle.solving.proofs.through.interpolation.Statement.{statement}
 use Rattle.solving.proofs.through.interpolation.Tie as tie
-
--- The invariant: the first r lines' poles stand at `poles`, solved with the factored matrix; all else is as it was. Assumes nothing.
 
 abbrev Inv-loop : tie.InvT-loop
 Inv-loop work₀ index points given band poles n lines h end r₀ work r = (r ≤ lines) × (length work ≡ length work₀) × (work ≡ splice poles (poles + r * (3 * n)) (joined r (linesTo h n band end given points work₀)) work₀)

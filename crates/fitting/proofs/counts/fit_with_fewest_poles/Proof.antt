@@ -6,8 +6,8 @@ use Rattle.search.proofs.SearchLaws.{running-bounded, running-count, fitted-nar
 use Rattle.fitting.proofs.CountLaws.{Searching, searching-start, has-searching, searching-done, searching-fitted, searching-failed}
 use native.Mathlib.Omega.{arith}
 use borrow.Author.Needs.{needs}
-use Rattle.fitting.proofs.counts.fewest_poles.Statement.{statement}
-use Rattle.fitting.proofs.counts.fewest_poles.Tie as tie
+use Rattle.fitting.proofs.counts.fit_with_fewest_poles.Statement.{statement}
+use Rattle.fitting.proofs.counts.fit_with_fewest_poles.Tie as tie
 
 abbrev Inv-loop : tie.InvT-loop
 Inv-loop work₀ index₀ points job tolerance last s₀ work index s = Searching job points tolerance last work₀ index₀ s work index
@@ -85,8 +85,8 @@ returns c =
     let l = c .before .before .before .before .loop in
     searching-done (a .job) (a .points .now) (a .tolerance) (a .last) (a .work .now) (a .index .now) (p .0) (l .s) (l .work) (l .index) (l .inv) (sym (c .before .before .before .next .ensures) ∙ c .before .enum-told .given .1) (c .found .result) (c .found .ensures)
 
-pub fewest-poles-spec : {M : Type 1} → statement M
-fewest-poles-spec =
+pub fit-with-fewest-poles-spec : {M : Type 1} → statement M
+fit-with-fewest-poles-spec =
     tie.close
     (tie.spec
     Inv-loop

@@ -5,8 +5,8 @@ use Rattle.fitting.specs.declared.Reached.the-variants.{Missed, Met}
 use Rattle.fitting.proofs.RoundsLaws.{Rounding, rounding-ended, rounding-fits, rounding-next, loop-start, loop-end}
 use native.Mathlib.Omega.{arith}
 use borrow.Author.Needs.{needs}
-use Rattle.fitting.proofs.refining.refine_within.Statement.{statement}
-use Rattle.fitting.proofs.refining.refine_within.Tie as tie
+use Rattle.fitting.proofs.refining.fit_with_refined_knots.Statement.{statement}
+use Rattle.fitting.proofs.refining.fit_with_refined_knots.Tie as tie
 
 abbrev Inv-loop : tie.InvT-loop
 Inv-loop work₀ index₀ points job tolerance l₀ work index l = Rounding job points tolerance work₀ index₀ work index l
@@ -94,8 +94,8 @@ loop-again c =
     let r = rounding-next (a .job) (a .points .now) (a .tolerance) (b .last .0) (a .index .now) (o .work) (o .index) (o .l) (o .inv) (x .last .0) (x .last .1 .0) (x .result) (x .ensures) (c .before .k .given .0 .0) (c .before .k .given .1) in
     r .1
 
-pub refine-within-spec : {M : Type 1} → statement M
-refine-within-spec =
+pub fit-with-refined-knots-spec : {M : Type 1} → statement M
+fit-with-refined-knots-spec =
     tie.close
     (tie.spec
     Inv-loop
