@@ -3,3 +3,4 @@ pub mod Lengths
 pub mod CholeskyLaws
 pub mod CarriedLaws
 pub mod Examples
+pub mod TogetherLaws

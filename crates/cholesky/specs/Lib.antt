@@ -2,3 +2,4 @@
 pub mod Cholesky
 pub mod Carried
 pub mod Textbook
+pub mod Together

@@ -1,5 +1,6 @@
 // Cholesky's factor L of a symmetric band matrix, A = L L', in the place of its lower half-band, and L L' x = b.
 pub mod carried;
+pub mod together;
 
 ghost use mathlib.Core.Path.{_≡_};
 ghost use Prim.Native.Nat.{_+_, _*_, _≤_, _<_};
@@ -137,6 +138,25 @@ fn back_point(lower: &[f64], poles: &[f64], h: usize, n: usize, i: usize) -> Poi
     x.scaled(1.0 / bands::band_entry(lower, w, h, i, i))
 }
 
+// The same in a work slice, put in its place: the factor is at l0..l1 and the points at p0..p1.
+pub fn back_row(
+    work: &mut [f64],
+    l0: usize,
+    l1: usize,
+    p0: usize,
+    p1: usize,
+    h: usize,
+    n: usize,
+    i: usize,
+)
+    requires { ⌜ Solvable l0 l1 p0 p1 (h + 1) h n (now work) × (i < n) ⌝ }
+    ensures { λ _. ⌜ now (work .exit) ≡ splice p0 p1 (backRow h n (part l0 l1 (now (work .entry))) i (part p0 p1 (now (work .entry)))) (now (work .entry)) ⌝ }
+{
+    let whole = &work[..];
+    let q = back_point(&whole[l0..l1], &whole[p0..p1], h, n, i);
+    geometry::put_point(&mut work[p0..p1], i, q);
+}
+
 // L' x = y in place.
 fn back_rows(work: &mut [f64], l0: usize, l1: usize, p0: usize, p1: usize, h: usize, n: usize)
     requires { ⌜ Solvable l0 l1 p0 p1 (h + 1) h n (now work) ⌝ }
@@ -145,9 +165,7 @@ fn back_rows(work: &mut [f64], l0: usize, l1: usize, p0: usize, p1: usize, h: us
     let mut i = n;
     while 0 < i {
         i -= 1;
-        let whole = &work[..];
-        let q = back_point(&whole[l0..l1], &whole[p0..p1], h, n, i);
-        geometry::put_point(&mut work[p0..p1], i, q);
+        back_row(work, l0, l1, p0, p1, h, n, i);
     }
 }
 

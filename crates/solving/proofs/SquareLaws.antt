@@ -5,17 +5,17 @@ use mathlib.Core.Option.{none, some}
 use mathlib.Core.List.{List}
 use mathlib.Core.Logic.{inl}
 use Prim.Native.Nat.{ℕ, _+_, _-_, _*_, _≤_, _<_}
-use native.Mathlib.Nat.{le-mul-of-pos-right, mul-le-mul-right}
+use native.Mathlib.Nat.{le-mul-of-pos-right}
 use native.Mathlib.Omega.{arith}
-use lib.ListN.{length, take, take-append-drop, getD, replicate, length-set, length-replicate}
+use lib.ListN.{length, take, getD, replicate, length-set, length-replicate}
 use lib.Seq.{take-take}
 use lib.Ieee.{Float}
 use Rattle.places.specs.Loops.{each, outcome}
 use Rattle.places.proofs.LoopLaws.{each-cong}
 use Rattle.places.specs.Places.{joined, allBelow}
 use Rattle.places.specs.Regions.{part, splice}
-use Rattle.places.proofs.PlaceLaws.{row-in, length-joined, joined-more, joined-same}
-use Rattle.places.proofs.RegionLaws.{Apart, length-each, length-part, length-splice, take-splice, part-splice, splice-again, splice-then, part-same, take-less, splice-join, length-down}
+use Rattle.places.proofs.PlaceLaws.{row-in, length-joined, joined-same}
+use Rattle.places.proofs.RegionLaws.{Apart, length-each, length-part, length-splice, take-splice, part-splice, splice-again, splice-then, length-down}
 use Rattle.geometry.specs.declared.Point.{Point}
 use Rattle.geometry.specs.Doubles.{nought, at, isFinite}
 use Rattle.geometry.proofs.PointLaws.{length-put-point}
@@ -193,48 +193,12 @@ lineIn t ix points d m band w r = substituteSymmetricBand (t .degree) m (part ba
 pub length-line : (t : Table) (ix : List ℕ) (points : List Float) (d : Data) (m band : ℕ) (w : List Float) (r : ℕ) → length (lineIn t ix points d m band w r) ≡ 3 * m
 length-line t ix points d m band w r = length-substituted (t .degree) m _ _ ∙ length-right (tableIn t w ix) m _
 
--- the first r lines are done
-abbrev pub LinesTo : Table → Data → ℕ → ℕ → ℕ → List Float → List Float → List ℕ → List Float → ℕ → Type 0
-LinesTo t d m band poles points w ix w′ r = (r ≤ d .lines) × (w′ ≡ splice poles (poles + 3 * (r * m)) (joined r (lineIn t ix points d m band w)) w)
-
-module _ (t : Table) (d : Data) (m band poles : ℕ) (points w : List Float) (ix : List ℕ) (has : HasSquares t d m band poles points w ix) where
-  pub line-kept : (w′ : List Float) → take poles w′ ≡ take poles w → (r : ℕ) → r < d .lines → lineIn t ix points d m band w′ r ≡ lineIn t ix points d m band w r
-  line-kept w′ same r h =
-      ap (λ (l : List Float). substituteSymmetricBand (t .degree) m l (rightHand (tableIn t w′ ix) m (dataPoint d points w′ r)))
-      (part-same poles w w′ same band (band + m * (t .degree + 1)) (omega arith) (has .matrix))
-      ∙ ap (substituteSymmetricBand (t .degree) m (part band (band + m * (t .degree + 1)) w))
-      (right-kept t ix points d r band w (has .lines) h (has .behind) m w′ (has .table) (take-less band poles w w′ (omega arith) same))
-
-  long : (r : ℕ) → length (joined r (lineIn t ix points d m band w)) ≡ poles + 3 * (r * m) - poles
-  long r = length-joined r (3 * m) (lineIn t ix points d m band w) (λ k h. length-line t ix points d m band w k) ∙ omega arith
-
-  pub lines-room : (r : ℕ) → r ≤ d .lines → poles + 3 * (r * m) ≤ length w
-  lines-room r h = let p : r * m ≤ d .lines * m = mul-le-mul-right m h in omega (arith, has .room)
-
-  pub lines-long : (w′ : List Float) (r : ℕ) → LinesTo t d m band poles points w ix w′ r → length w′ ≡ length w
-  lines-long w′ r to = ap length (to .1) ∙ length-splice poles (poles + 3 * (r * m)) (joined r (lineIn t ix points d m band w)) w (omega arith) (lines-room r (to .0)) (long r)
-
-  pub lines-start : LinesTo t d m band poles points w ix w 0
-  unfolding joined
-  lines-start = let z : poles + 3 * (0 * m) - poles ≡ 0 = omega arith in (omega arith, rw z (sym (take-append-drop poles w)))
-
-  pub lines-next : (w′ w″ : List Float) (r : ℕ) → LinesTo t d m band poles points w ix w′ r → r < d .lines
-      → w″ ≡ splice (poles + 3 * (r * m)) (poles + 3 * (r * m) + 3 * m) (lineIn t ix points d m band w′ r) w′
-      → LinesTo t d m band poles points w ix w″ (r + 1)
-  lines-next w′ w″ r to h put =
-      let a : ℕ = poles + 3 * (r * m) in
-      let f : ℕ → List Float = lineIn t ix points d m band w in
-      let room : a + 3 * m ≤ length w = let p = row-in r (d .lines) m h in omega (arith, has .room) in
-      let same : take poles w′ ≡ take poles w = ap (take poles) (to .1) ∙ take-splice poles a (joined r f) w (omega arith) (omega arith) (long r) in
-      let on : a + 3 * m ≡ poles + 3 * ((r + 1) * m) = omega arith in (
-        omega arith,
-        put
-            ∙ ap (λ (l : List Float). splice a (a + 3 * m) l w′) (line-kept w′ same r h)
-            ∙ ap (splice a (a + 3 * m) (f r)) (to .1)
-            ∙ splice-join poles a (a + 3 * m) (joined r f) (f r) w (omega arith) (omega arith) room (long r)
-            ∙ ap (λ (l : List Float). splice poles (a + 3 * m) l w) (sym (joined-more r f))
-            ∙ ap (λ (e : ℕ). splice poles e (joined (r + 1) f) w) on,
-      )
+-- the only line
+pub one-line : (m poles lines : ℕ) (f : ℕ → List Float) (w w′ : List Float) → lines ≡ 1 → w′ ≡ splice poles (poles + 3 * m) (f 0) w → w′ ≡ splice poles (poles + 3 * (lines * m)) (joined lines f) w
+unfolding joined
+one-line m poles lines f w w′ e put =
+    let z : m ≡ 1 * m = omega arith in
+    put ∙ ap (λ (k : ℕ). splice poles (poles + 3 * k) (f 0) w) z ∙ ap (λ (k : ℕ). splice poles (poles + 3 * (k * m)) (joined k f) w) (sym e)
 
 -- ---- the whole fit
 

@@ -1,17 +1,21 @@
 // Least-squares poles of lines of data (`least_squares`): the normal equations A'A x = A'b in regions of the work, factored once for all the lines.
 ghost use mathlib.Core.Path.{_≡_};
 ghost use Prim.Native.Nat.{ℕ, _+_, _-_, _*_, _≤_, _<_};
+ghost use mathlib.Core.List.{List};
 ghost use lib.ListN.{length};
+ghost use lib.Ieee.{Float};
 ghost use Rattle.places.specs.Loops.{each};
 ghost use Rattle.places.specs.Places.{joined, allBelow};
 ghost use Rattle.places.specs.Regions.{part, splice};
 ghost use Rattle.geometry.specs.Doubles.{at, isFinite};
 ghost use Rattle.cholesky.specs.Cholesky.{substituteSymmetricBand};
+ghost use Rattle.cholesky.specs.Together.{EachLine};
 ghost use Rattle.solving.specs.LeastSquares.{addProduct, normalMatrix, addDatum, rightHand, leastSquares};
 ghost use Rattle.tables.specs.Layout.{tableIn, dataPoint, HasTable, HasData, HasSquares, Squared};
 ghost use Rattle.solving.specs.Steps.{addRowProduct, addRowValue, addToPole, OntoBand, OntoPoles};
 use cholesky::factor_symmetric_band;
 use cholesky::substitute_symmetric_band;
+use cholesky::together::substitute_together;
 use geometry::Point;
 use tables::Data;
 use tables::Table;
@@ -224,7 +228,28 @@ fn solve_line(
     substitute_symmetric_band(work, band, end, poles, to, p, m);
 }
 
-// The poles of all the lines, one line after the other.
+// A'b for each line, m poles a line, those of line r from place `poles` + 3 r m on.
+fn right_hands(
+    work: &mut [f64],
+    index: &[usize],
+    points: &[f64],
+    table: Table,
+    given: Data,
+    m: usize,
+    band: usize,
+    poles: usize,
+)
+    requires { ⌜ HasSquares table given m band poles (now points) (now work) (now index) ⌝ }
+    ensures { λ _. ⌜ EachLine poles m (given .lines) (λ (r : ℕ) (x : List Float). rightHand (tableIn table (now (work .entry)) (now (index .entry))) m (dataPoint given (now (points .entry)) (now (work .entry)) r))
+        (now (work .entry)) (now (work .exit)) ⌝ }
+{
+    for r in 0..given.lines {
+        let start = poles + 3 * (r * m);
+        right_hand(work, index, points, table, given, r, m, start);
+    }
+}
+
+// The poles of all the lines: one line by itself, and several together.
 fn solve_lines(
     work: &mut [f64],
     index: &[usize],
@@ -240,10 +265,14 @@ fn solve_lines(
         (joined (given .lines) (λ (r : ℕ). substituteSymmetricBand (table .degree) m (part band (band + m * (table .degree + 1)) (now (work .entry)))
         (rightHand (tableIn table (now (work .entry)) (now (index .entry))) m (dataPoint given (now (points .entry)) (now (work .entry)) r)))) (now (work .entry)) ⌝ }
 {
-    for r in 0..given.lines {
-        let start = poles + 3 * (r * m);
-        solve_line(work, index, points, table, given, r, m, band, start);
+    if given.lines == 1 {
+        solve_line(work, index, points, table, given, 0, m, band, poles);
+        return;
     }
+    let p = table.degree;
+    let end = band + m * (p + 1);
+    right_hands(work, index, points, table, given, m, band, poles);
+    substitute_together(work, band, end, poles, given.lines, p, m);
 }
 
 // Least-squares poles, m of them for each line, those of line r from place `poles` + 3 r m on; false where the data leaves a pole (nearly) undetermined

@@ -23,58 +23,18 @@ loop-holds c =
 sub-i : tie.Need-sub-i Inv-loop μ-loop
 sub-i c = omega arith
 
-mul-back-point : tie.Need-mul-back-point Inv-loop μ-loop
-mul-back-point c = omega arith
-
-sub-back-point : tie.Need-sub-back-point Inv-loop μ-loop
-sub-back-point c = omega arith
-
-part-back-point-start : tie.Need-part-back-point-start Inv-loop μ-loop
-part-back-point-start c = omega arith
-
-part-back-point-end : tie.Need-part-back-point-end Inv-loop μ-loop
-part-back-point-end c = omega arith
-
-mul-back-point-2 : tie.Need-mul-back-point-2 Inv-loop μ-loop
-mul-back-point-2 c = omega arith
-
-sub-back-point-2 : tie.Need-sub-back-point-2 Inv-loop μ-loop
-sub-back-point-2 c = omega arith
-
-part-back-point-start-2 : tie.Need-part-back-point-start-2 Inv-loop μ-loop
-part-back-point-start-2 c = omega arith
-
-part-back-point-end-2 : tie.Need-part-back-point-end-2 Inv-loop μ-loop
-part-back-point-end-2 c = omega arith
-
-back-point-requires : tie.Need-back-point-requires Inv-loop μ-loop
-back-point-requires c κs = omega arith
-
-mul-put-point : tie.Need-mul-put-point Inv-loop μ-loop
-mul-put-point c = omega arith
-
-sub-put-point : tie.Need-sub-put-point Inv-loop μ-loop
-sub-put-point c = omega arith
-
-part-put-point-start : tie.Need-part-put-point-start Inv-loop μ-loop
-part-put-point-start c = omega arith
-
-part-put-point-end : tie.Need-part-put-point-end Inv-loop μ-loop
-part-put-point-end c = omega arith
-
-put-point-requires : tie.Need-put-point-requires Inv-loop μ-loop
-put-point-requires c κs = omega arith
+back-row-requires : tie.Need-back-row-requires Inv-loop μ-loop
+back-row-requires c κs = omega arith
 
 loop-less : tie.Need-loop-less Inv-loop μ-loop
 loop-less c = omega arith
 
 loop-again : tie.Need-loop-again Inv-loop μ-loop
-unfolding backRow
 loop-again c =
-    let at = c .before .before .before .before .before .before .before .before .before in
+    let at = c .before .before .before .before .before in
     let a = at .before .before .args in
     let i : at .loop .i ≡ (at .loop .i - 1) + 1 = omega arith in
-    (omega arith, down-turn (a .p0) (a .p1) (a .l0) (a .l1) (backRow (a .h) (a .n)) (length-back-row (a .h) (a .n)) (a .work .now) (regions-apart (at .before .before .pre .regions)) (a .n) (at .loop .work) _ (at .loop .i - 1) (rw i at (at .loop .inv .1)) (rw (c .before .before .put-point .ensures, c .before .before .before .before .back-point .ensures)))
+    (omega arith, down-turn (a .p0) (a .p1) (a .l0) (a .l1) (backRow (a .h) (a .n)) (length-back-row (a .h) (a .n)) (a .work .now) (regions-apart (at .before .before .pre .regions)) (a .n) (at .loop .work) _ (at .loop .i - 1) (rw i at (at .loop .inv .1)) (c .before .before .back-row .ensures))
 
 same-length : tie.Need-same-length Inv-loop μ-loop
 same-length c = omega arith
@@ -94,20 +54,7 @@ back-rows-spec =
     μ-loop
     loop-holds
     sub-i
-    mul-back-point
-    sub-back-point
-    part-back-point-start
-    part-back-point-end
-    mul-back-point-2
-    sub-back-point-2
-    part-back-point-start-2
-    part-back-point-end-2
-    back-point-requires
-    mul-put-point
-    sub-put-point
-    part-put-point-start
-    part-put-point-end
-    put-point-requires
+    back-row-requires
     loop-less
     loop-again
     same-length
