@@ -1,5 +1,5 @@
 -- Two passes over the lines, each of which reads the factor before them. Assumes nothing.
-use mathlib.Core.Path.{_≡_, _∙_}
+use mathlib.Core.Path.{_∙_}
 use Rattle.cholesky.specs.Cholesky.{substituteSymmetricBand}
 use Rattle.cholesky.proofs.TogetherLaws.{factor-stays, solvable-kept, each-then}
 use Rattle.cholesky.proofs.together.substitute_together.Statement.{statement}

@@ -2,7 +2,7 @@
 use mathlib.Core.Path.{_≡_}
 use Prim.Native.Nat.{_+_, _-_, _≤_}
 use native.Mathlib.Omega.{arith}
-use lib.ListN.{length, length-set}
+use lib.ListN.{length-set}
 use Rattle.knots.specs.Parameters.{stepSums}
 use Rattle.knots.proofs.ParameterLaws.{Stepped, stepped-none, stepped-next, stepped-all, sumTo}
 use Rattle.knots.proofs.parameters.sum_steps.Statement.{statement}
