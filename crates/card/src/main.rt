@@ -17,17 +17,17 @@ enum Input {
     End(State),
 }
 
-// Reads a part of the text.
+// Reads a part of the text. A read that brings no byte, at the end or because it failed, ends it.
 fn read_some(state: State, points: &mut [f64]) -> Input
     requires { ⌜ Held state × (192 ≤ length (now points)) ⌝ }
     ensures { λ r. ⌜ HeldIn r × Took state (now (points .entry)) (now (points .exit)) r ⌝ }
 {
     let mut buffer = io::large_buffer();
     let got = libc::read(0, &mut buffer);
-    if got <= 0 {
+    let n = io::count(got, &buffer);
+    if n == 0 {
         return Input::End(state);
     }
-    let n = io::count(got, &buffer);
     Input::More(state.feed(&buffer[..n], points))
 }
 

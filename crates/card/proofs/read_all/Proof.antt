@@ -43,7 +43,7 @@ loop-again c =
     let read = c .before .before .before .before .before .read-some in
     let so-far = c .before .before .before .before .before .before .before .before .loop .inv .2 in
     let took = subst (Took _ _ _) (c .before .next .given .1) (read .ensures .1) in
-    (subst HeldIn (c .before .next .given .1) (read .ensures .0), omega arith, (so-far .0 ++ took .0, read-more (took .0) (so-far .1) (took .1) (took .2)))
+    (subst HeldIn (c .before .next .given .1) (read .ensures .0), omega arith, (so-far .0 ++ took .0, read-more (took .0) (so-far .1) (took .2) (took .3)))
 
 enum-known-last : tie.Need-enum-known-last Inv-loop μ-loop
 enum-known-last c = search needs
