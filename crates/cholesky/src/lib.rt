@@ -1,4 +1,5 @@
 // Cholesky's factor L of a symmetric band matrix, A = L L', in the place of its lower half-band, and L L' x = b.
+#![tactic(auto)]
 pub mod carried;
 pub mod together;
 

@@ -1,4 +1,5 @@
 // LU without pivoting of a band matrix, in place, and L U x = b.
+#![tactic(auto)]
 pub mod narrow;
 
 ghost use Rattle.std.specs.Prelude.{◌≡◌, ◌++◌, ◌+◌, ◌-◌, ◌*◌, ◌≤◌, ◌<◌, length, drop};

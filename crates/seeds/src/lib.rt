@@ -1,5 +1,6 @@
 // Guesses at 1/√x for x from 1 to 4, one parabola for each of 512 ranges (written by harness/seeds.py). Nothing has to hold of these numbers: whoever takes a
 // guess tests what comes of it. The match becomes a table in the program's constant data.
+#![tactic(auto)]
 
 // The parabola of range i, from its lower end: 2^32 times the value there, in parts of 2^32, and the slope, in parts of 2^41; the last 11 digits are also the
 // bend, in parts of 2^28.
