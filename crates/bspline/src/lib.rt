@@ -12,7 +12,7 @@ use geometry::Point;
 
 // Why a call is refused. The first six and TooFewKnots, KnotsNotIncreasing and MultiplicityTooLarge have the Rust's names; document 01 adds the others.
 // Document 01's number for each is `number_of` in specs/Refusals.antt.
-#[derive(Drop)]
+#[derive(Clone, Copy)]
 pub enum Refusal {
     TooFewPoints,
     InvalidDegree,
@@ -55,14 +55,14 @@ impl Refusal {
 }
 
 // What a check, or checks one after the other, say.
-#[derive(Drop)]
+#[derive(Clone, Copy)]
 pub enum Verdict {
     Pass,
     Stop(Refusal),
 }
 
 // What the reader answers.
-#[derive(Drop)]
+#[derive(Clone, Copy)]
 pub enum Reading {
     Read(Point),
     Refused(Refusal),

@@ -11,7 +11,7 @@ ghost use Rattle.card.specs.Input.{HeldIn, Took};
 use card_reader::State;
 
 // What one read brought.
-#[derive(Drop)]
+#[derive(Clone, Copy)]
 enum Input {
     More(State),
     End(State),

@@ -155,7 +155,7 @@ pub fn put_refusal(number: u32, out: &mut [u8]) -> usize
 }
 
 // A text printed, so many bytes, or that it is not: there is no room for it, or what is to be printed is no curve of 64 points.
-#[derive(Drop)]
+#[derive(Clone, Copy)]
 pub enum Printed {
     Text(usize),
     NoRoom,

@@ -12,14 +12,14 @@ use geometry::Point;
 use knots::Spacing;
 
 // A word, or `none`.
-#[derive(Drop)]
+#[derive(Clone, Copy)]
 pub enum Tolerance {
     Without,
     Within(u64),
 }
 
 // What stands before a card's points.
-#[derive(Drop)]
+#[derive(Clone, Copy)]
 pub struct Head {
     pub degree: usize,
     pub spacing: Spacing,
@@ -27,7 +27,7 @@ pub struct Head {
 }
 
 // How far a text is read. The points of whole lines lie in the lent slice, and `count` is their number, 65 for more.
-#[derive(Drop)]
+#[derive(Clone, Copy)]
 pub enum State {
     // bytes read of the first line
     Names(usize),
@@ -53,7 +53,7 @@ pub enum State {
 }
 
 // What a whole text is judged: a card with so many points, a card with over 64, or no card.
-#[derive(Drop)]
+#[derive(Clone, Copy)]
 pub enum Judgement {
     Card(Head, usize),
     TooMany,
@@ -160,7 +160,7 @@ pub fn judge(text: &[u8], points: &mut [f64]) -> Judgement
 }
 
 // A whole text read: what it is judged, or that the slice has no room for 64 points.
-#[derive(Drop)]
+#[derive(Clone, Copy)]
 pub enum Read {
     Judged(Judgement),
     NoRoom,

@@ -6,7 +6,7 @@ use crate::{Head, State, Tolerance};
 use knots::Spacing;
 
 // A word of which a byte more is read: so many digits and their value, or the whole word, or no word.
-#[derive(Drop)]
+#[derive(Clone, Copy)]
 pub enum Word {
     More(usize, u64),
     Whole(u64),

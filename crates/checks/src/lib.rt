@@ -4,7 +4,7 @@ pub mod grid;
 pub mod ladder;
 
 // Document 01's calls on a ladder: through the points, with a chosen pole count, within a tolerance, and the spread search alone.
-#[derive(Drop)]
+#[derive(Clone, Copy)]
 pub enum Call {
     Interpolate,
     Approximate(usize),
@@ -13,21 +13,21 @@ pub enum Call {
 }
 
 // What one direction of a grid is fitted to: a chosen pole count, or a tolerance with the fewer poles of refinement and the spread search.
-#[derive(Drop)]
+#[derive(Clone, Copy)]
 pub enum Aim {
     Count(usize),
     Within(f64),
 }
 
 // Document 01's calls on a grid: with chosen pole counts along u and v, and within a tolerance.
-#[derive(Drop)]
+#[derive(Clone, Copy)]
 pub enum SurfaceCall {
     Approximate(usize, usize),
     ApproximateWithin(f64),
 }
 
 // The lengths of a ladder call's lent slices.
-#[derive(Drop)]
+#[derive(Clone, Copy)]
 pub struct Room {
     pub poles: usize,
     pub flat: usize,
@@ -38,7 +38,7 @@ pub struct Room {
 }
 
 // Rows and columns of points, and the degrees along u and v.
-#[derive(Drop)]
+#[derive(Clone, Copy)]
 pub struct Shape {
     pub rows: usize,
     pub cols: usize,
@@ -47,7 +47,7 @@ pub struct Shape {
 }
 
 // The lengths of a grid call's lent slices.
-#[derive(Drop)]
+#[derive(Clone, Copy)]
 pub struct GridRoom {
     pub poles: usize,
     pub uflat: usize,

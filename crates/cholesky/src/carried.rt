@@ -9,7 +9,7 @@ ghost use Rattle.cholesky.specs.Carried.{Above, Left};
 ghost use Rattle.bands.specs.Shapes.{HasRow};
 
 // The last places of three rows of L, each up to its diagonal: a, then b and c, then d, e and f.
-#[derive(Drop)]
+#[derive(Clone, Copy)]
 pub struct Triangle {
     pub a: f64,
     pub b: f64,
@@ -20,7 +20,7 @@ pub struct Triangle {
 }
 
 // A row of L left of its diagonal, and the diagonal before its root.
-#[derive(Drop)]
+#[derive(Clone, Copy)]
 pub struct Row {
     pub far: f64,
     pub middle: f64,

@@ -10,7 +10,7 @@ ghost use Rattle.fitting.specs.Marks.{largest_deviation, mark_number};
 use tables::{Data, Measured, Table};
 
 // Which step gave the knots and poles that are handed out, with the largest computed deviation: document 01's refined, spread, interpolated and chosen.
-#[derive(Drop)]
+#[derive(Clone, Copy)]
 pub enum Mark {
     Refined(f64),
     Spread(f64),
@@ -45,7 +45,7 @@ impl Mark {
 }
 
 // The mark beside the counts: poles, distinct knots, unreadable deviations.
-#[derive(Drop)]
+#[derive(Clone, Copy)]
 pub struct Fit {
     pub mark: Mark,
     pub poles: usize,
@@ -55,7 +55,7 @@ pub struct Fit {
 
 // The fitting of one direction in the lent slices: its table and data, for columns the table of the other direction, and where the work holds its
 // parameters, its flat knots, the band, the poles, for columns a curve's poles, the deviations by their squares, and new knots.
-#[derive(Drop)]
+#[derive(Clone, Copy)]
 pub struct Job {
     pub table: Table,
     pub given: Data,
@@ -70,14 +70,14 @@ pub struct Job {
 }
 
 // What least squares on given knots came to: nothing, or a fit with what its distances measure.
-#[derive(Drop)]
+#[derive(Clone, Copy)]
 pub enum Attempt {
     Unfitted,
     Fitting(Measured),
 }
 
 // What one round of refinement comes to: an end without a fit, a fit within the tolerance, or so many flat knots for the next round.
-#[derive(Drop)]
+#[derive(Clone, Copy)]
 pub enum Turn {
     Ended,
     Fits(Measured),
@@ -85,7 +85,7 @@ pub enum Turn {
 }
 
 // Whether the tolerance was met: not, or by a fit on so many flat knots, with what its distances measure.
-#[derive(Drop)]
+#[derive(Clone, Copy)]
 pub enum Reached {
     Missed,
     Met(usize, Measured),

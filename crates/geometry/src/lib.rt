@@ -11,7 +11,7 @@ ghost use Rattle.geometry.specs.Points.{distance, squared_distance, plus_scaled,
 pub const CONFUSION: f64 = 1e-7;
 
 // A point: three doubles handled as one value.
-#[derive(Drop)]
+#[derive(Clone, Copy)]
 pub struct Point {
     pub x: f64,
     pub y: f64,

@@ -6,7 +6,7 @@ ghost use Rattle.geometry.specs.Root.{sqrt_of};
 ghost use Rattle.geometry.specs.RootSteps.{RootOf, root_bits, pattern_units, quick_is, nearest_to};
 
 // The whole part q of the root of a whole number n, and the rest n - q * q.
-#[derive(Drop)]
+#[derive(Clone, Copy)]
 pub struct Root {
     pub q: u64,
     pub rest: u64,
@@ -121,7 +121,7 @@ fn careful_sqrt(x: f64) -> f64
 }
 
 // What the quick way comes to.
-#[derive(Drop)]
+#[derive(Clone, Copy)]
 pub enum Quick {
     At(u64),
     Nothing,

@@ -8,7 +8,7 @@ ghost use Rattle.std.specs.Prelude.{◌≡◌};
 ghost use Rattle.knots.specs.Parameters.{spacing_of};
 
 // How a point gets its parameter: by chord lengths, or by their square roots.
-#[derive(Drop)]
+#[derive(Clone, Copy)]
 pub enum Spacing {
     Chordal,
     Centripetal,

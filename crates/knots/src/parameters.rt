@@ -13,7 +13,7 @@ use crate::Spacing;
 use geometry::{CONFUSION, point_at};
 
 // What a line is summed up to: the length of its chords, its last running sum, and whether two neighbours are confused.
-#[derive(Drop)]
+#[derive(Clone, Copy)]
 pub struct LineSums {
     pub length: f64,
     pub total: f64,
@@ -21,7 +21,7 @@ pub struct LineSums {
 }
 
 // What a line's chords come to: their length, and whether two neighbours are confused.
-#[derive(Drop)]
+#[derive(Clone, Copy)]
 pub struct LineChords {
     pub length: f64,
     pub confused: bool,

@@ -16,7 +16,7 @@ use making::Made;
 use tables::{Data, Table};
 
 // What a ladder call answers: a fit's mark and counts, with its knots and poles in the lent slices, or the refusal.
-#[derive(Drop)]
+#[derive(Clone, Copy)]
 pub enum Answer {
     Fitted(Fit),
     Refused(Refusal),

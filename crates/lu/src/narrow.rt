@@ -13,14 +13,14 @@ ghost use Rattle.bands.specs.SolvedRow.{solved_row};
 use geometry::Point;
 
 // Two neighbouring places of a row.
-#[derive(Drop)]
+#[derive(Clone, Copy)]
 pub struct Pair {
     pub x: f64,
     pub y: f64,
 }
 
 // Of a pivot's row the diagonal and the two places after it; of the row below it the three from the pivot's column on.
-#[derive(Drop)]
+#[derive(Clone, Copy)]
 pub struct Ahead {
     pub diagonal: f64,
     pub near: f64,
@@ -112,7 +112,7 @@ pub fn factor_narrow(band: &mut [f64], n: usize)
 }
 
 // Two neighbouring points.
-#[derive(Drop)]
+#[derive(Clone, Copy)]
 pub struct Points {
     pub first: Point,
     pub second: Point,

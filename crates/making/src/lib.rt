@@ -19,7 +19,7 @@ use fitting::{Attempt, Job, Mark, Reached};
 use tables::Measured;
 
 // A fit that stands in its job's regions: its mark, how many flat knots it has, and how many of its deviations are unreadable.
-#[derive(Drop)]
+#[derive(Clone, Copy)]
 pub struct Standing {
     pub mark: Mark,
     pub flat: usize,
@@ -27,7 +27,7 @@ pub struct Standing {
 }
 
 // What a call makes of a direction.
-#[derive(Drop)]
+#[derive(Clone, Copy)]
 pub enum Made {
     Fails(Refusal),
     Stands(Standing),

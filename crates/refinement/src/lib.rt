@@ -11,7 +11,7 @@ pub mod spans;
 pub mod splits;
 
 // What a round comes to: nothing to split, or so many flat knots.
-#[derive(Drop)]
+#[derive(Clone, Copy)]
 pub enum Round {
     Stuck,
     Refined(usize),

@@ -10,7 +10,7 @@ use replay_list::answers::Listed;
 use replay_list::cases::{Case, Found};
 
 // One case: whether the answers are the same, with the place of the next case.
-#[derive(Drop)]
+#[derive(Clone, Copy)]
 pub enum Turn {
     Same(usize),
     Different(usize),
@@ -18,7 +18,7 @@ pub enum Turn {
 }
 
 // The whole list: how many cases, how many of them differ, and the number of the first that does.
-#[derive(Drop)]
+#[derive(Clone, Copy)]
 pub enum Tally {
     Whole(u64, u64, u64),
     Damaged,

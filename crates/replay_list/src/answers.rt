@@ -9,7 +9,7 @@ use fitting::Fit;
 use ladders::Answer;
 
 // A fit as the list has it. Its values start at `values`, and after them stands the next case.
-#[derive(Drop)]
+#[derive(Clone, Copy)]
 pub struct ListedFit {
     pub mark: u64,
     pub largest: u64,
@@ -20,7 +20,7 @@ pub struct ListedFit {
     pub next: usize,
 }
 
-#[derive(Drop)]
+#[derive(Clone, Copy)]
 pub enum Listed {
     Refused(u64),
     Fitted(ListedFit),

@@ -8,7 +8,7 @@ use checks::Call;
 use knots::Spacing;
 
 // `count` places, of which the words from `start` on give `given`.
-#[derive(Drop)]
+#[derive(Clone, Copy)]
 pub struct Case {
     pub call: Call,
     pub degree: usize,
@@ -19,7 +19,7 @@ pub struct Case {
     pub start: usize,
 }
 
-#[derive(Drop)]
+#[derive(Clone, Copy)]
 pub enum Found {
     Here(Case),
     Damaged,

@@ -2,14 +2,14 @@
 ghost use Rattle.std.specs.Prelude.{◌+◌, ◌≤◌, length};
 ghost use Rattle.replay_list.specs.Text.{ReadAt, ReadAs};
 
-#[derive(Drop)]
+#[derive(Clone, Copy)]
 pub enum Word {
     Is(u64),
     Damaged,
 }
 
 // How many words were read, or that the text is no list of words.
-#[derive(Drop)]
+#[derive(Clone, Copy)]
 pub enum Lines {
     Whole(usize),
     Damaged,

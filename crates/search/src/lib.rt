@@ -6,7 +6,7 @@ ghost use Rattle.search.specs.Search.{start, next_of, fitted_at, failed_at, answ
 ghost use Rattle.search.specs.Bounds.{Bounded};
 
 // The pole-count search: `low` fails or is the degree; `high` passes or is the count that the caller falls back on, which is never tried.
-#[derive(Drop)]
+#[derive(Clone, Copy)]
 pub struct Search {
     pub low: usize,
     pub high: usize,
@@ -14,14 +14,14 @@ pub struct Search {
 }
 
 // The next pole count to try.
-#[derive(Drop)]
+#[derive(Clone, Copy)]
 pub enum Next {
     Try(usize),
     Done,
 }
 
 // The pole count that the search ends with.
-#[derive(Drop)]
+#[derive(Clone, Copy)]
 pub enum Found {
     At(usize),
     Nothing,

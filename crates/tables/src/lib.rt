@@ -14,7 +14,7 @@ pub const ROWS: usize = 1;
 pub const COLUMNS: usize = 2;
 
 // Where a basis table stands: `count` first poles in the index from place `firsts` on, and `count` rows of degree + 1 values in the work from `values` on.
-#[derive(Drop)]
+#[derive(Clone, Copy)]
 pub struct Table {
     pub degree: usize,
     pub count: usize,
@@ -24,7 +24,7 @@ pub struct Table {
 
 // Lines of data: their kind and number, how many points stand across, and for columns the places in the work from `start` to `end` - 1 where the row poles
 // stand.
-#[derive(Drop)]
+#[derive(Clone, Copy)]
 pub struct Data {
     pub kind: usize,
     pub lines: usize,
@@ -34,7 +34,7 @@ pub struct Data {
 }
 
 // What is made of distances: the largest, folded from 0 with NaN passed over, and how many are NaN.
-#[derive(Drop)]
+#[derive(Clone, Copy)]
 pub struct Measured {
     pub largest: f64,
     pub unreadable: usize,

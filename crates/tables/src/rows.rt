@@ -4,7 +4,7 @@ ghost use Rattle.std.specs.Prelude.{◌≡◌};
 ghost use Rattle.bspline.specs.Spans.{span_on};
 ghost use Rattle.tables.specs.Rows.{SpanFits, rows_of};
 
-#[derive(Drop)]
+#[derive(Clone, Copy)]
 pub struct BasisRows<'a> {
     pub flat: &'a [f64],
     pub degree: usize,
