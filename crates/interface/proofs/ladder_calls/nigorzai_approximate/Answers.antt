@@ -1,0 +1,6 @@
+-- The spacing by its number, and the call. Assumes nothing.
+use borrow.Author.Rules.{rules}
+use Rattle.interface.proofs.ladder_calls.nigorzai_approximate.Goals as goal
+
+pub returns : goal.returns
+returns c = rw c.spacing_of.ensures at c.call_ladder.ensures

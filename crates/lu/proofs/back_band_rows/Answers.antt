@@ -1,0 +1,32 @@
+-- The loop's invariant: what the rows that are left make of the points is what all of them make of those at the start. Assumes nothing.
+use mathlib.Core.Path.{◌≡◌}
+use Prim.Native.Nat.{◌+◌, ◌-◌, ◌*◌, ◌≤◌}
+use native.Mathlib.Omega.{arith}
+use Rattle.places.proofs.PlaceLaws.{row_inside}
+use Rattle.places.proofs.RegionLaws.{GoingDown, down-start, down_turn, down_end}
+use Rattle.lu.specs.BandLu.{back_band_row, back_band_point}
+use Rattle.lu.proofs.Lengths.{length-back_band-row}
+use Rattle.bands.proofs.Rows.{regions-apart}
+use Rattle.lu.proofs.back_band_rows.Goals as goal
+
+pub loop-i-init : goal.loop-i-init
+loop-i-init c = let a = c.args in
+    (omega arith, down-start a.p0 a.p1 a.l0 a.l1 (back_band_row a.h a.n) (length-back_band-row a.h a.n) a.work.now (regions-apart c.requires.regions) a.n)
+
+pub solve_row-requires : goal.solve_row-requires
+solve_row-requires c = let at = c in
+    let a = at.args in
+    omega (arith, row_inside (at.loop-i.i - 1) a.n (2 * a.h + 1) (omega arith))
+
+pub loop-i-preserved : goal.loop-i-preserved
+unfolding back_band_row back_band_point
+loop-i-preserved c = let at = c in
+    let a = at.args in
+    let i : at.loop-i.i ≡ (at.loop-i.i - 1) + 1 = omega arith in
+    (omega arith, down_turn a.p0 a.p1 a.l0 a.l1 (back_band_row a.h a.n) (length-back_band-row a.h a.n) a.work.now (regions-apart at.requires.regions) a.n at.loop-i.work _ (at.loop-i.i - 1) (rw i at at.loop-i.invariant.1) (rw c.row_end-end.ensures at c.solve_row.ensures))
+
+pub returns : goal.returns
+returns c = let at = c in
+    let a = at.args in
+    let z : at.loop-i.i ≡ 0 = omega arith in
+    down_end a.p0 a.p1 a.l0 a.l1 (back_band_row a.h a.n) (length-back_band-row a.h a.n) a.work.now (regions-apart at.requires.regions) a.n at.loop-i.work (rw z at at.loop-i.invariant.1)

@@ -1,0 +1,28 @@
+-- The loop's invariant: what the pivots that are left make of the band is what all of them make of it. Assumes nothing.
+use mathlib.Core.Path.{◌≡◌, refl, sym, ◌∙◌}
+use Prim.Native.Nat.{◌+◌, ◌-◌, ◌*◌}
+use native.Mathlib.Omega.{arith}
+use lib.ListN.{length}
+use Rattle.places.specs.Loops.{each}
+use Rattle.places.proofs.LoopLaws.{each_step, each_done}
+use Rattle.places.proofs.PlaceLaws.{row_inside}
+use Rattle.lu.specs.BandLu.{eliminate}
+use Rattle.lu.proofs.eliminate_from.Goals as goal
+
+pub loop-k-init : goal.loop-k-init
+loop-k-init c = (refl, refl, refl)
+
+pub eliminate_pivot-requires : goal.eliminate_pivot-requires
+eliminate_pivot-requires c = let at = c in
+    let a = at.args in
+    omega (arith, row_inside at.loop-k.k a.n (2 * a.h + 1) (omega arith))
+
+pub loop-k-preserved : goal.loop-k-preserved
+loop-k-preserved c = let at = c in
+    let a = at.args in
+    (omega arith, omega arith, rw c.eliminate_pivot.ensures.0 (sym (each_step at.loop-k.k a.n _ at.loop-k.band (omega arith)) ∙ at.loop-k.invariant.2))
+
+pub returns : goal.returns
+returns c = let at = c in
+    let a = at.args in
+    sym (each_done at.loop-k.k a.n _ at.loop-k.band (omega arith)) ∙ at.loop-k.invariant.2

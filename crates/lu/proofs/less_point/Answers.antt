@@ -1,0 +1,15 @@
+-- The definition, by the test. Assumes nothing.
+use mathlib.Core.Path.{◌∙◌}
+use native.Mathlib.Omega.{arith}
+use lib.Ieee.{of_bits}
+use Rattle.lu.specs.BandLu.{less_point}
+use Rattle.lu.proofs.less_point.Goals as goal
+
+pub returns-then-factor : goal.returns-then-factor
+unfolding less_point of_bits
+returns-then-factor c = rw c.if-factor.true
+
+pub returns : goal.returns
+unfolding less_point of_bits
+returns c = let s = c in
+    rw s.if-factor.false (c.put_point.ensures ∙ rw (s.less_scaled-r.ensures, s.point_at.ensures))

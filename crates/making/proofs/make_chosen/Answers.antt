@@ -1,0 +1,13 @@
+-- Least squares on the spread knots of the chosen count is the definition's fit, or gives none. Assumes nothing.
+use Rattle.fitting.proofs.AttemptLaws.{spread-knots}
+use Rattle.making.proofs.MakeLaws.{chosen_unfitted, chosen_fitting}
+use borrow.Author.Rules.{rules}
+use Rattle.making.proofs.make_chosen.Goals as goal
+
+pub returns-in-Unfitted : goal.returns-in-Unfitted
+returns-in-Unfitted c = chosen_unfitted c.requires.0 c.attempt_spread.ensures c.in-Unfitted.is
+
+pub returns-in-Fitting : goal.returns-in-Fitting
+returns-in-Fitting c = let s = c in
+    let a = s.args in
+    chosen_fitting s.requires.0 c.attempt_spread.ensures c.in-Fitting.m c.in-Fitting.is (spread-knots a.job a.count s.requires.1 s.requires.2)

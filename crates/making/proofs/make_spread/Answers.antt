@@ -1,0 +1,18 @@
+-- The spread search leaves its fit in the regions; where it has none, the direction is as it was, and the points are interpolated. Assumes nothing.
+use Rattle.fitting.proofs.AttemptLaws.{has_job-kept}
+use Rattle.making.proofs.MakeLaws.{spread_missed, spread_met}
+use Prim.Native.Nat.{◌+◌}
+use borrow.Author.Rules.{rules}
+use Rattle.making.proofs.make_spread.Goals as goal
+
+pub make_through-requires : goal.make_through-requires
+make_through-requires c = let s = c in
+    let a = s.args in
+    let f = c.fit_on_spread_knots in
+    has_job-kept a.job a.points.now a.work.now f.new.work a.index.now f.new.index (a.job.fresh + a.job.table.count) (a.job.table.firsts + a.job.table.count) s.requires f.ensures.reaches.kept f.ensures.reaches.firsts
+
+pub returns-in-Missed : goal.returns-in-Missed
+returns-in-Missed c = spread_missed c.requires c.fit_on_spread_knots.ensures c.in-Missed.is c.make_through.ensures
+
+pub returns-in-Met : goal.returns-in-Met
+returns-in-Met c = spread_met c.requires c.fit_on_spread_knots.ensures c.in-Met.l c.in-Met.m c.in-Met.is

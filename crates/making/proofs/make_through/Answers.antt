@@ -1,0 +1,7 @@
+-- The interpolation that stands in the regions is the definition's. Assumes nothing.
+use Rattle.making.proofs.MakeLaws.{made_through}
+use borrow.Author.Rules.{rules}
+use Rattle.making.proofs.make_through.Goals as goal
+
+pub returns : goal.returns
+returns c = made_through c.requires c.pass_through-m.ensures

@@ -1,0 +1,18 @@
+-- Refinement leaves its fit in the regions; where it has none, the direction is as it was, and the spread search has its turn. Assumes nothing.
+use Rattle.fitting.proofs.AttemptLaws.{has_job-kept}
+use Rattle.making.proofs.MakeLaws.{refined_missed, refined_met}
+use Prim.Native.Nat.{◌+◌}
+use borrow.Author.Rules.{rules}
+use Rattle.making.proofs.make_within.Goals as goal
+
+pub make_spread-requires : goal.make_spread-requires
+make_spread-requires c = let s = c in
+    let a = s.args in
+    let f = c.fit_with_refined_knots in
+    has_job-kept a.job a.points.now a.work.now f.new.work a.index.now f.new.index (a.job.fresh + a.job.table.count) (a.job.table.firsts + a.job.table.count) s.requires f.ensures.reaches.kept f.ensures.reaches.firsts
+
+pub returns-in-Missed : goal.returns-in-Missed
+returns-in-Missed c = refined_missed c.requires c.fit_with_refined_knots.ensures c.in-Missed.is c.make_spread.ensures
+
+pub returns-in-Met : goal.returns-in-Met
+returns-in-Met c = refined_met c.requires c.fit_with_refined_knots.ensures c.in-Met.l c.in-Met.m c.in-Met.is
