@@ -23,8 +23,7 @@ fn read_some(state: State, points: &mut [f64]) -> Input
     ensures { HeldIn result × Took state points.old points.new result }
 {
     let mut buffer = io::large_buffer();
-    let got = libc::read(0, &mut buffer);
-    let n = io::count(got, &buffer);
+    let n = io::read_full(0, &mut buffer);
     if n == 0 {
         return Input::End(state);
     }

@@ -18,7 +18,7 @@ use Rattle.knots.specs.declared.Spacing.TheVariants as spacing
 use Rattle.card_reader.specs.declared.Tolerance.{Tolerance}
 use Rattle.card_reader.specs.declared.Tolerance.TheVariants as tolerance
 use Rattle.card_reader.specs.declared.State.{State}
-use Rattle.card_reader.specs.declared.State.TheVariants.{Names, Degree, Chordal, Centripetal, Bound, Without, Axes, X, Y, Z}
+use Rattle.card_reader.specs.declared.State.TheVariants.{Names, Degree, Chordal, Bound, Axes, X, Y, Z}
 use Rattle.card_reader.specs.declared.steps.Word.TheVariants.{More, Whole}
 use Rattle.card_reader.proofs.CaseLaws.{test}
 use Rattle.card_text.proofs.NumberLaws.{Plain, plain, shorter, decimal-digits}

@@ -8,7 +8,6 @@ use Rattle.card_text.specs.Text.{digit_of}
 use Rattle.card_reader.specs.Reading.{next, Held, Digits, after, kept, kept_after}
 use Rattle.card_reader.specs.declared.State.{State}
 use Rattle.card_reader.specs.declared.State.TheVariants.{Names, Degree, Chordal, Centripetal, Bound, Without, Axes, X, Y, Z, Unreadable}
-use Rattle.card_reader.specs.declared.Tolerance.TheVariants as tolerance
 use Rattle.card_reader.proofs.CaseLaws.{literal_cases, word_cases, degree_cases, test}
 use Rattle.card_text.proofs.NumberLaws.{more-digits}
 use mathlib.Core.List.{List}

@@ -12,7 +12,6 @@ use Rattle.places.specs.Places.{list_of}
 use Rattle.places.proofs.PlaceLaws.{length-list_of}
 use Rattle.places.proofs.RegionLaws.{length_part}
 use Rattle.tables.specs.declared.Measured.{Measured}
-use Rattle.geometry.specs.Doubles.{largest}
 use Rattle.geometry.specs.Root.{roots_of}
 use Rattle.tables.specs.BasisTable.{BasisTable, basis_table, parameter_count}
 use Rattle.tables.specs.Deviations.{all_within, largest_within, unreadable}

@@ -1,5 +1,5 @@
 -- The laws of inserting into a sorted list, and of sorting. Assumes nothing.
-use Rattle.std.proofs.Common.{◌≡◌, ℕ, zero, suc, ◌+◌, ◌-◌, ◌<◌, ◌≤◌, Bool, true, false, cond, T, ltb, leb, List, [], ◌∷◌, ◌++◌, length, get_or, take, drop, set, sym, refl, ap, ◌∙◌, subst, append_assoc, le_trans, le_of_lt, add-one, arith, length-append, drop_of_length-le, length-take-le, take_all, drop-cons, take-suc, take_at, drop_at, ltb-false, ltb-true, le-ltb, lt-ltb, le-leb, leb-false, leb-true}
+use Rattle.std.proofs.Common.{◌≡◌, ℕ, zero, suc, ◌+◌, ◌<◌, ◌≤◌, Bool, true, false, cond, T, ltb, leb, List, [], ◌∷◌, ◌++◌, length, get_or, take, drop, set, sym, refl, ap, ◌∙◌, subst, append_assoc, le_trans, le_of_lt, add-one, arith, length-append, drop_of_length-le, length-take-le, take_all, drop-cons, take-suc, take_at, drop_at, ltb-false, ltb-true, le-ltb, lt-ltb, le-leb, leb-false, leb-true}
 use borrow.Author.Tests.{lt-leb}
 use lib.Seq.{take-length, split_at, set_at, get_or_at}
 use lib.Ieee.{Float, nan, ne, to_bits}

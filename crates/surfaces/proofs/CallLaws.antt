@@ -1,7 +1,7 @@
 -- A whole grid call: a check that stops leaves every slice, and after the fit work and index are 0. Assumes nothing.
 use mathlib.Core.Path.{◌≡◌, refl, sym, ◌∙◌, ap, subst}
 use mathlib.Core.List.{List}
-use Prim.Native.Nat.{ℕ, ◌-◌}
+use Prim.Native.Nat.{ℕ}
 use lib.ListN.{length, replicate}
 use lib.Ieee.{Float}
 use Rattle.geometry.specs.Doubles.{nought}
