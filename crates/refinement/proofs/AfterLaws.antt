@@ -1,6 +1,6 @@
 -- What stands in the work after a round, for callers of `refine`: the regions that stay, the flat knots, and that the next round's regions are given.
 -- Assumes nothing.
-use Rattle.std.proofs.Common.{◌≡◌, ℕ, ◌+◌, ◌-◌, ◌<◌, ◌≤◌, ◌⊎◌, List, length, take, sym, refl, ◌∙◌, inl, inr, ⊎_elim, arith}
+use Rattle.std.proofs.Common.{◌≡◌, ℕ, ◌+◌, ◌<◌, ◌≤◌, ◌⊎◌, List, length, take, sym, refl, ◌∙◌, inl, inr, ⊎_elim, arith}
 use mathlib.Core.Option.{Option, none, some}
 use lib.Ieee.{Float}
 use Rattle.places.specs.Regions.{part, splice}

@@ -1,6 +1,6 @@
 -- A round: the new knots taken in among the flat ones, and what it hands back. For callers: `refined-grows`, `refined_ascending`, `round-stuck`,
 -- `round-refined`, `regions-next`; what then stands in the work is in AfterLaws. Assumes nothing.
-use Rattle.std.proofs.Common.{◌≡◌, ℕ, ◌+◌, ◌-◌, ◌<◌, ◌≤◌, Bool, true, false, cond, ◌||◌, eqb, leb, ◌⊎◌, List, ◌++◌, length, drop, sym, refl, ap, ◌∙◌, inl, inr, ⊎_elim, arith, length-append, eq-eqb, ne_eqb, le-leb, leb-false}
+use Rattle.std.proofs.Common.{◌≡◌, ℕ, ◌+◌, ◌-◌, ◌<◌, ◌≤◌, Bool, true, false, cond, ◌||◌, eqb, leb, List, ◌++◌, length, drop, sym, refl, ap, ◌∙◌, inl, inr, ⊎_elim, arith, length-append, eq-eqb, ne_eqb, le-leb, leb-false}
 use mathlib.Core.Option.{Option, none, some}
 use borrow.Author.Tests.{lt-leb, eqb-false}
 use lib.Ieee.{Float}

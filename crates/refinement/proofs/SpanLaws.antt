@@ -1,6 +1,6 @@
 -- The spans that hold parameters: their ends rise and are at most the number of parameters, and the loops that find them and their worst deviations.
 -- Assumes nothing.
-use Rattle.std.proofs.Common.{◌≡◌, ℕ, zero, suc, ◌+◌, ◌-◌, ◌%◌, ◌^◌, ◌<◌, ◌≤◌, Bool, true, false, not, eqb, List, [], ◌∷◌, ◌++◌, length, get_or, take, drop, set, sym, refl, ◌∙◌, subst, ⊎_elim, eq-or-lt_of_le, add-one, arith, length-append, length-set, take_at, le-ltb, le-leb}
+use Rattle.std.proofs.Common.{◌≡◌, ℕ, zero, suc, ◌+◌, ◌%◌, ◌^◌, ◌<◌, ◌≤◌, Bool, true, false, not, eqb, List, [], ◌∷◌, ◌++◌, length, get_or, take, drop, set, sym, refl, ◌∙◌, subst, ⊎_elim, eq-or-lt_of_le, add-one, arith, length-append, length-set, take_at, le-ltb, le-leb}
 use borrow.Author.Tests.{lt-leb}
 use lib.ListN.{get_or-append}
 use lib.Seq.{get_or_at}
