@@ -1,6 +1,7 @@
 // Band matrices, stored row by row in lent slices (document 01, part 3; curves/fitting.rs): entries, the columns of a row, and one row of a triangular system, for
 // Cholesky's factor and LU alike.
 #![tactic(auto)]
+
 ghost use Rattle.std.specs.Prelude.{◌≡◌, ◌-◌, ◌<◌, length};
 ghost use Rattle.places.specs.Regions.{part, splice};
 ghost use Rattle.geometry.specs.Points.{put_point};

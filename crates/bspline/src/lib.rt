@@ -1,5 +1,6 @@
 // Knots, basis functions and the reading of a curve: document 01, part 2 (src/curve_math/bspline.rs), and the refusals of every call.
 #![tactic(auto)]
+
 pub mod basis;
 pub mod checks;
 pub mod reader;

@@ -1,5 +1,6 @@
 // The card program: a ladder's text from standard input, the text of its curve or of the refusal to standard output.
 #![tactic(auto)]
+
 mod answer;
 
 ghost use Rattle.std.specs.Prelude.{◌≡◌, List, ℕ, ◌≤◌, length, take, drop};

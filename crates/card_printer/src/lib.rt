@@ -1,5 +1,6 @@
 // The text of an answer or of a refusal, put into a lent slice of bytes: document 01's output.
 #![tactic(auto)]
+
 ghost use Rattle.std.specs.Prelude.{◌≡◌, true, [], ◌∷◌, ◌+◌, ◌*◌, ◌/◌, ◌≤◌, length};
 ghost use Rattle.io.specs.Counts.{IsPrefixLen};
 ghost use Rattle.places.specs.Places.{joined};

@@ -1,5 +1,6 @@
 // The text of a card, read a byte at a time: it is accepted just where it is a card's, however long it is.
 #![tactic(auto)]
+
 pub mod steps;
 
 ghost use Rattle.std.specs.Prelude.{◌≡◌, ◌≤◌, ◌<◌, length};

@@ -1,5 +1,6 @@
 // Document 01's words, the 64 bits of a double with one pattern for every NaN, and their digits.
 #![tactic(auto)]
+
 ghost use Rattle.std.specs.Prelude.{◌≡◌};
 ghost use Rattle.std.specs.Float.{binary64};
 ghost use Rattle.std.specs.Float.Ieee.{of_bits, to_bits};

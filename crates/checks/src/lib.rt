@@ -1,5 +1,6 @@
 // What the calls are asked for, the lengths that they are lent, and document 01's checks.
 #![tactic(auto)]
+
 pub mod grid;
 pub mod ladder;
 

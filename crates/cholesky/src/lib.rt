@@ -1,5 +1,6 @@
 // Cholesky's factor L of a symmetric band matrix, A = L L', in the place of its lower half-band, and L L' x = b.
 #![tactic(auto)]
+
 pub mod carried;
 pub mod together;
 

@@ -1,5 +1,6 @@
 // Fits of one direction: document 01, part 3 (least squares on given and on spread knots, refinement, the pole-count search, interpolation).
 #![tactic(auto)]
+
 pub mod attempts;
 pub mod counts;
 pub mod refining;

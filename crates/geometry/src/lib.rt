@@ -1,5 +1,6 @@
 // Doubles, their square root and order, and points: document 01, part 1 (src/point.rs, src/tolerance.rs, and the methods of f64 that the language lacks).
 #![tactic(auto)]
+
 pub mod doubles;
 pub mod order;
 pub mod root;

@@ -1,5 +1,6 @@
 // Grid fits: document 01, part 4.
 #![tactic(auto)]
+
 pub mod fits;
 pub mod jobs;
 pub mod output;

@@ -1,5 +1,6 @@
 // Parameters and knots: document 01, part 3 (`point_parameters`, `shared_parameters`, `averaged_knots`, `approximation_knots`, `compress_knots`).
 #![tactic(auto)]
+
 pub mod clamped;
 pub mod parameters;
 pub mod runs;

@@ -1,5 +1,6 @@
 // The ladder calls (document 01, part 3: `interpolate`, `approximate`, `approximate_within`, the spread search alone): their checks, then the fit, then work and index cleared.
 #![tactic(auto)]
+
 ghost use Rattle.std.specs.Prelude.{◌≡◌, ◌-◌, ◌*◌, ◌/◌, ◌≤◌, length};
 ghost use Rattle.bspline.specs.declared.Verdict.TheVariants.{Pass};
 ghost use Rattle.checks.specs.LadderChecks.{Roomy, Shaped, lent, room_of, count_verdict};

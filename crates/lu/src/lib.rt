@@ -1,5 +1,6 @@
 // LU without pivoting of a band matrix, in place, and L U x = b.
 #![tactic(auto)]
+
 pub mod narrow;
 
 ghost use Rattle.std.specs.Prelude.{◌≡◌, ◌++◌, ◌+◌, ◌-◌, ◌*◌, ◌≤◌, ◌<◌, length, drop};

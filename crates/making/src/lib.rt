@@ -1,5 +1,6 @@
 // What each call makes of a direction whose parameters stand in the work: a refusal, or a fit that then stands in the job's regions.
 #![tactic(auto)]
+
 pub mod output;
 
 ghost use Rattle.std.specs.Prelude.{◌≡◌, ◌≤◌, ◌<◌, length};

@@ -1,5 +1,6 @@
 // What the runs beside the Rust link: thin functions with C's calling convention over the inner functions. They are no part of the library's own interface.
 #![tactic(auto)]
+
 ghost use Rattle.std.specs.Prelude.{◌≡◌, ◌+◌, ◌-◌, ◌*◌, ◌≤◌, length};
 ghost use Rattle.geometry.specs.Root.{sqrt_of};
 ghost use Rattle.geometry.specs.Doubles.{whole_part};

@@ -1,5 +1,6 @@
 // Places of lent slices: fill, copy and clear, for doubles and for index numbers. The vocabulary of loops, places and regions is in specs/, its laws in proofs/.
 #![tactic(auto)]
+
 ghost use Rattle.std.specs.Prelude.{◌≡◌, ◌++◌, ◌⊎◌, ℕ, ◌+◌, ◌≤◌, length, drop, replicate};
 ghost use Rattle.std.specs.Float.{binary64};
 ghost use Rattle.std.specs.Float.Ieee.{of_bits};

@@ -1,5 +1,6 @@
 // One round of the refinement of knots (`fit_with_refined_knots`): the spans that miss the tolerance split between their middle parameters.
 #![tactic(auto)]
+
 ghost use Rattle.std.specs.Prelude.{◌≡◌, ◌+◌, ◌≤◌, ◌++◌, length, drop};
 ghost use Rattle.places.specs.Regions.{part};
 ghost use Rattle.geometry.specs.Root.{roots_of};

@@ -2,6 +2,7 @@
 // The list is standard input, a word of 16 hexadecimal digits to a line: how many cases, then case by case the call and its answer.
 // All room is on the stack: 512 KiB of text, its words in 241 KiB, and some 1.1 MiB lent to the calls, enough for 3,200 places and degree 27.
 #![tactic(auto)]
+
 mod runs;
 
 use crate::runs::Tally;

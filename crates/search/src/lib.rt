@@ -1,6 +1,7 @@
 // The search for the fewest poles: doubling steps up from the degree, then halving. The search is a value: `next` says which count to try, and
 // `fitted` or `failed` takes what came of it.
 #![tactic(auto)]
+
 ghost use Rattle.std.specs.Prelude.{◌≡◌};
 ghost use Rattle.search.specs.Search.{start, next_of, fitted_at, failed_at, answer};
 ghost use Rattle.search.specs.Bounds.{Bounded};

@@ -1,5 +1,6 @@
 // The grid calls (document 01, part 4): their checks, then the fits, then work and index cleared.
 #![tactic(auto)]
+
 ghost use Rattle.checks.specs.GridChecks.{grid_of, grid_lent};
 ghost use Rattle.grids.specs.Grids.{GridCall, ApproximatesGrid, ApproximatesGridWithin};
 

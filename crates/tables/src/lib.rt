@@ -1,6 +1,7 @@
 // Basis tables and deviations, for ladders, rows and columns: document 01, part 3 (`BasisTable`) and part 4 (`row_deviations`, `deviations`). Everything
 // stands in regions of two lent slices, `work` and `index`.
 #![tactic(auto)]
+
 pub mod basis_table;
 pub mod datum;
 pub mod deviations;

@@ -1,5 +1,6 @@
 // A call's answer for C: its number, and the mark and the counts of a fit in two more lent slices. A slice too short for them is too short like any other.
 #![tactic(auto)]
+
 pub mod grid;
 pub mod ladder;
 

@@ -16,7 +16,7 @@ pub returns : goal.returns
 returns c =
     let f = c.decimal-n.ensures.len in
     let e : decimal_text c.args.x ≡ digits 10 c.decimal-n.result c.args.x =
-        fewest c.args.x c.decimal-n.result c.ranges.x.fits f.0 f.1 f.2 in
+    fewest c.args.x c.decimal-n.result c.ranges.x.fits f.0 f.1 f.2 in
     let p = c.put.ensures.place in
     let q = twenty c.args.x c.decimal-n.result c.ranges.x.fits f.0 f.2 in
     (subst (Put _ _ _ _) (c.decimal-n.ensures.digits ∙ sym e) c.put.ensures, omega arith)

@@ -5,16 +5,16 @@ use Rattle.card_printer.proofs.put_pole.Goals as goal
 
 pub returns : goal.returns
 returns c = let last = c.put.ensures.place in (
-      put_put _ _ (omega arith)
-          c.put_double-a.ensures.0
-          (put_put _ _ (omega arith)
-          c.put-b.ensures
-          (put_put _ _ (omega arith)
-          c.put_double-c.ensures.0
-          (put_put _ _ (omega arith)
-          c.put-d.ensures
-          (put_put _ _ (omega arith)
-          c.put_double-e.ensures.0
-          c.put.ensures)))),
-      omega arith,
-    )
+  put_put _ _ (omega arith)
+      c.put_double-a.ensures.0
+      (put_put _ _ (omega arith)
+      c.put-b.ensures
+      (put_put _ _ (omega arith)
+      c.put_double-c.ensures.0
+      (put_put _ _ (omega arith)
+      c.put-d.ensures
+      (put_put _ _ (omega arith)
+      c.put_double-e.ensures.0
+      c.put.ensures)))),
+  omega arith,
+)

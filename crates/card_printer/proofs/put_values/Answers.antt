@@ -5,16 +5,16 @@ use Rattle.card_printer.proofs.put_values.Goals as goal
 
 pub returns : goal.returns
 returns c = let last = c.put.ensures.place in (
-      rw (← c.deviation.ensures) (put_put _ _ (omega arith)
-          c.put_mark-a.ensures.0
-          (put_put _ _ (omega arith)
-          c.put-b.ensures
-          (put_put _ _ (omega arith)
-          c.put_double-c.ensures.0
-          (put_put _ _ (omega arith)
-          c.put-d.ensures
-          (put_put _ _ (omega arith)
-          c.put_decimal-e.ensures.0
-          c.put.ensures))))),
-      omega arith,
-    )
+  rw (← c.deviation.ensures) (put_put _ _ (omega arith)
+      c.put_mark-a.ensures.0
+      (put_put _ _ (omega arith)
+      c.put-b.ensures
+      (put_put _ _ (omega arith)
+      c.put_double-c.ensures.0
+      (put_put _ _ (omega arith)
+      c.put-d.ensures
+      (put_put _ _ (omega arith)
+      c.put_decimal-e.ensures.0
+      c.put.ensures))))),
+  omega arith,
+)

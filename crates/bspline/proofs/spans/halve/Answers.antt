@@ -21,13 +21,13 @@ loop-rest-preserved c =
     let span = c.loop-rest.span in
     let half = c.loop-rest.rest / 2 in
     elim c.if-flat-span.branch [
-      then-flat-span w ↦ (
+      | then-flat-span w ↦ (
         omega arith,
         omega arith,
         omega arith,
         inv.3 ∙ last_with_jump _ span _ half _ _ (omega arith) (omega arith) w.span-is (rw w.span-is w.if-flat-span.true),
       )
-    | else-flat-span w ↦ (
+      | else-flat-span w ↦ (
         omega arith,
         omega arith,
         omega arith,

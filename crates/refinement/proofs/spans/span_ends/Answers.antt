@@ -15,8 +15,8 @@ loop-k-preserved c = let l = c.loop-k in
     let old = c.args.firsts.now in
     let e = sym c.closes_span.ensures in
     elim c.if-closes_span.branch [
-    | then-closes_span w ↦ rw (w.firsts-is, w.s-is) (ending_yes old l.firsts l.s l.k (omega arith) l.invariant (e ∙ w.if-closes_span.true))
-    | else-closes_span w ↦ rw (w.firsts-is, w.s-is) (ending_no old l.firsts l.s l.k (omega arith) l.invariant (e ∙ w.if-closes_span.false))
+      | then-closes_span w ↦ rw (w.firsts-is, w.s-is) (ending_yes old l.firsts l.s l.k (omega arith) l.invariant (e ∙ w.if-closes_span.true))
+      | else-closes_span w ↦ rw (w.firsts-is, w.s-is) (ending_no old l.firsts l.s l.k (omega arith) l.invariant (e ∙ w.if-closes_span.false))
     ]
 
 pub returns : goal.returns

@@ -18,8 +18,8 @@ loop-s-preserved c = let l = c.loop-s in
     let e = c.splits_span.ensures in (
       omega arith,
       elim c.if-splits_span.branch [
-      | then-splits_span w ↦ rw (w.count-is, count_yes l.s _ (sym e ∙ w.if-splits_span.true)) (ap (λ (n : ℕ). n + 1) l.invariant.1)
-      | else-splits_span w ↦ rw (w.count-is, count_no l.s _ (sym e ∙ w.if-splits_span.false)) l.invariant.1
+        | then-splits_span w ↦ rw (w.count-is, count_yes l.s _ (sym e ∙ w.if-splits_span.true)) (ap (λ (n : ℕ). n + 1) l.invariant.1)
+        | else-splits_span w ↦ rw (w.count-is, count_no l.s _ (sym e ∙ w.if-splits_span.false)) l.invariant.1
       ],
     )
 

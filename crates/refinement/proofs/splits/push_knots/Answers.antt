@@ -47,12 +47,12 @@ loop-s-preserved c = let a = c.args in
     let split = sym (here (goal.at.loop-s-preserved c).After-splits_span) in
     let same = pushing-params _ _ _ _ _ _ _ _ _ b.0 b.1.0 b.1.1.0 b.1.1.1 w _ _ _ l.invariant in
     elim c.if-splits_span.branch [
-    | then-splits_span v ↦
-        rw (v.work-is, v.at-is)
-        (pushing_yes _ _ _ _ _ _ _ _ _ b.0 b.1.0 b.1.1.0 b.1.1.1 w _ _ _ l.invariant (omega arith) (split ∙ v.if-splits_span.true) v.middle_knot-knot.result (rw same at v.middle_knot-knot.ensures))
-    | else-splits_span v ↦
-        rw (v.work-is, v.at-is)
-        (pushing_no _ _ _ _ _ _ _ _ _ b.0 b.1.0 b.1.1.0 b.1.1.1 w _ _ _ l.invariant (omega arith) (split ∙ v.if-splits_span.false))
+      | then-splits_span v ↦
+          rw (v.work-is, v.at-is)
+          (pushing_yes _ _ _ _ _ _ _ _ _ b.0 b.1.0 b.1.1.0 b.1.1.1 w _ _ _ l.invariant (omega arith) (split ∙ v.if-splits_span.true) v.middle_knot-knot.result (rw same at v.middle_knot-knot.ensures))
+      | else-splits_span v ↦
+          rw (v.work-is, v.at-is)
+          (pushing_no _ _ _ _ _ _ _ _ _ b.0 b.1.0 b.1.1.0 b.1.1.1 w _ _ _ l.invariant (omega arith) (split ∙ v.if-splits_span.false))
     ]
 
 pub returns : goal.returns

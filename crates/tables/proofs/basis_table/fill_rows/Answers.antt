@@ -42,9 +42,11 @@ basis_values-requires c =
     (omega (arith, fits), omega (arith, fits), omega (arith, h, inv.long))
 
 pub loop-k-preserved : goal.loop-k-preserved
-loop-k-preserved c =
-    (omega arith, work-next c.next_span-span.result _ c.loop-k.invariant.1 (omega arith) (omega arith) (omega arith) (omega arith) (omega arith)
-    (omega arith) c.next_span-span.ensures c.basis_values.ensures)
+loop-k-preserved c = (
+  omega arith,
+  work-next c.next_span-span.result _ c.loop-k.invariant.1 (omega arith) (omega arith) (omega arith) (omega arith) (omega arith)
+      (omega arith) c.next_span-span.ensures c.basis_values.ensures,
+)
 
 pub shape_of-work : goal.shape_of-work
 shape_of-work c = c.loop-k.invariant.1.long
