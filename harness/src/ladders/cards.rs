@@ -5,7 +5,7 @@ use std::path::Path;
 use std::process::{Command, Stdio};
 
 /// The program.
-const PROGRAM: &str = concat!(env!("CARGO_MANIFEST_DIR"), "/../target/bin/card");
+const PROGRAM: &str = concat!(env!("CARGO_MANIFEST_DIR"), "/../crates/card/out/card");
 
 // ---- the card program over the Rust
 
