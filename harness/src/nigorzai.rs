@@ -1,4 +1,4 @@
-//! Nigorzai for Rust. A program can take this file as it is; it links libinterface.a (`rt staticlib interface`), on x86-64. All `unsafe` is in here: the
+//! Nigorzai for Rust. A program can take this file as it is; it links libinterface.a (`./library interface`), on x86-64. All `unsafe` is in here: the
 //! library takes every input, writes nothing but the slices that it is lent, keeps no pointer and allocates nothing, so that a slice's own pointer and length are
 //! all that a call needs.
 //!
