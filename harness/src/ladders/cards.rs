@@ -201,7 +201,7 @@ fn ran(text: &[u8]) -> Vec<u8> {
 
 /// Runs both on so many texts and compares the bytes.
 pub fn compare(count: u64, seed: u64) -> u64 {
-    assert!(Path::new(PROGRAM).exists(), "no program at {PROGRAM}: rt check card makes it");
+    assert!(Path::new(PROGRAM).exists(), "no program at {PROGRAM}: ./card makes it");
     let (mut random, mut different, mut bytes) = (Random::new(seed), 0, 0);
     let mut outcomes: BTreeMap<usize, u64> = BTreeMap::new();
     for i in 0..count {
