@@ -1,6 +1,5 @@
 -- The place is within the list, and the column's number fits where the list's length does. Assumes nothing.
 use mathlib.Core.Path.{refl}
-use native.Mathlib.Omega.{arith}
 use lib.ListN.{length-set}
 use Rattle.bands.proofs.Rows.{column_fits}
 use Rattle.bands.proofs.put_band_entry.Goals as goal

@@ -1,5 +1,4 @@
 -- What is put is what `solved_row` returns, in the region that was lent. Assumes nothing.
-use native.Mathlib.Omega.{arith}
 use Rattle.bands.proofs.solve_row.Goals as goal
 
 pub returns : goal.returns

@@ -1,14 +1,7 @@
 -- The loop's invariant: what the columns that are left make of the point is what all of them make of point i. Assumes nothing.
-use mathlib.Core.Path.{◌≡◌, sym, ◌∙◌}
-use mathlib.Core.List.{List}
-use Prim.Native.Nat.{ℕ, ◌-◌, ◌≤◌}
+use mathlib.Core.Path.{sym, ◌∙◌}
 use native.Mathlib.Omega.{arith}
-use lib.Ieee.{Float}
-use Rattle.places.specs.Loops.{each}
 use Rattle.places.proofs.LoopLaws.{each_step, each_done}
-use Rattle.geometry.specs.declared.Point.{Point}
-use Rattle.geometry.specs.Points.{point_at, less_scaled}
-use Rattle.bands.specs.Bands.{entry}
 use Rattle.bands.proofs.solved_row.Invariants.{turn}
 use Rattle.bands.proofs.solved_row.Goals as goal
 

@@ -1,7 +1,6 @@
 -- The byte lies in one of five ranges, and the definition asks the same tests. Assumes nothing.
 use borrow.Author.Tests.{lt-ltb, le-ltb}
 use Rattle.card_text.specs.Text.{digit_of}
-use borrow.Author.Rules.{rules}
 use Rattle.card_text.proofs.digit.Goals as goal
 
 pub returns-then-b-lt48 : goal.returns-then-b-lt48

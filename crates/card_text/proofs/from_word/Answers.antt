@@ -7,7 +7,6 @@ use lib.Dec.{T}
 use mathlib.Core.Bool.{not, true}
 use lib.Ieee.{binary64, of_bits, div, is_nan, Float, nan, inf, fin}
 use lib.Ieee.Bits.{nan_bits_above, nan_bits_is}
-use borrow.Author.Rules.{rules}
 use Rattle.card_text.proofs.from_word.Goals as goal
 
 nan_is : (x : Float) → is_nan x ≡ true → nan ≡ x

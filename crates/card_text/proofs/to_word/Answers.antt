@@ -4,7 +4,6 @@ use lib.Dec.{T}
 use lib.Ieee.{nan, binary64, to_bits}
 use lib.Ieee.Compare.{differs_from_itself}
 use Rattle.geometry.proofs.DoubleLaws.{a-number}
-use borrow.Author.Rules.{rules}
 use Rattle.card_text.proofs.to_word.Goals as goal
 
 nan_word : 0x7ff8_0000_0000_0000 ≡ to_bits binary64 nan

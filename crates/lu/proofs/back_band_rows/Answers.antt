@@ -1,9 +1,9 @@
 -- The loop's invariant: what the rows that are left make of the points is what all of them make of those at the start. Assumes nothing.
 use mathlib.Core.Path.{◌≡◌}
-use Prim.Native.Nat.{◌+◌, ◌-◌, ◌*◌, ◌≤◌}
+use Prim.Native.Nat.{◌+◌, ◌-◌, ◌*◌}
 use native.Mathlib.Omega.{arith}
 use Rattle.places.proofs.PlaceLaws.{row_inside}
-use Rattle.places.proofs.RegionLaws.{GoingDown, down-start, down_turn, down_end}
+use Rattle.places.proofs.RegionLaws.{down-start, down_turn, down_end}
 use Rattle.lu.specs.BandLu.{back_band_row, back_band_point}
 use Rattle.lu.proofs.Lengths.{length-back_band-row}
 use Rattle.bands.proofs.Rows.{regions-apart}

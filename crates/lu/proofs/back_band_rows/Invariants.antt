@@ -1,12 +1,7 @@
 -- The loop's invariant: what the rows that are left make of the points is what all of them make of those at the start. Assumes nothing.
-use mathlib.Core.Path.{◌≡◌}
-use Prim.Native.Nat.{◌+◌, ◌-◌, ◌*◌, ◌≤◌}
-use native.Mathlib.Omega.{arith}
-use Rattle.places.proofs.PlaceLaws.{row_inside}
-use Rattle.places.proofs.RegionLaws.{GoingDown, down-start, down_turn, down_end}
-use Rattle.lu.specs.BandLu.{back_band_row, back_band_point}
-use Rattle.lu.proofs.Lengths.{length-back_band-row}
-use Rattle.bands.proofs.Rows.{regions-apart}
+use Prim.Native.Nat.{◌≤◌}
+use Rattle.places.proofs.RegionLaws.{GoingDown}
+use Rattle.lu.specs.BandLu.{back_band_row}
 use Rattle.lu.proofs.back_band_rows.Given as goal
 
 abbrev pub invariant-loop-i : goal.invariant-loop-i

@@ -1,11 +1,8 @@
 -- The loop's invariant: what the rows that are left make of the rest is what all of them make of it. Assumes nothing.
-use mathlib.Core.Path.{◌≡◌, refl, sym, ◌∙◌}
+use mathlib.Core.Path.{◌≡◌}
 use Prim.Native.Nat.{◌-◌}
-use native.Mathlib.Omega.{arith}
 use lib.ListN.{length}
 use Rattle.places.specs.Loops.{each}
-use Rattle.places.proofs.LoopLaws.{each_step, each_done}
-use Rattle.places.proofs.PlaceLaws.{row_inside}
 use Rattle.lu.specs.BelowPivot.{clear_row, clear_below}
 use Rattle.lu.proofs.clear_below.Given as goal
 

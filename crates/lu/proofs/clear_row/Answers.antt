@@ -1,5 +1,4 @@
 -- The definition: what is read stands there still. Assumes nothing.
-use native.Mathlib.Omega.{arith}
 use Rattle.lu.specs.BelowPivot.{clear_row}
 use Rattle.lu.proofs.clear_row.Goals as goal
 

@@ -1,12 +1,9 @@
 -- The loop's invariant: what the pivots that are left make of the band is what all of them make of it. Assumes nothing.
-use mathlib.Core.Path.{◌≡◌, refl, sym, ◌∙◌}
-use Prim.Native.Nat.{◌+◌, ◌-◌, ◌*◌}
+use mathlib.Core.Path.{refl, sym, ◌∙◌}
+use Prim.Native.Nat.{◌+◌, ◌*◌}
 use native.Mathlib.Omega.{arith}
-use lib.ListN.{length}
-use Rattle.places.specs.Loops.{each}
 use Rattle.places.proofs.LoopLaws.{each_step, each_done}
 use Rattle.places.proofs.PlaceLaws.{row_inside}
-use Rattle.lu.specs.BandLu.{eliminate}
 use Rattle.lu.proofs.eliminate_from.Goals as goal
 
 pub loop-k-init : goal.loop-k-init

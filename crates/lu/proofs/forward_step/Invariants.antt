@@ -1,17 +1,12 @@
 -- The loop's invariant: what the rows that are left make of the points is what all of them make of those at the start. Assumes nothing.
 use mathlib.Core.Path.{◌≡◌}
 use mathlib.Core.List.{List}
-use Prim.Native.Nat.{ℕ, ◌+◌, ◌-◌, ◌*◌, ◌<◌}
-use native.Mathlib.Omega.{arith}
-use lib.ListN.{length}
+use Prim.Native.Nat.{ℕ, ◌+◌, ◌-◌, ◌<◌}
 use lib.Ieee.{Float}
-use Rattle.places.proofs.PlaceLaws.{row_inside}
-use Rattle.places.proofs.RegionLaws.{Going, going_start, going-turn, going_end}
+use Rattle.places.proofs.RegionLaws.{Going}
 use Rattle.geometry.specs.declared.Point.{Point}
-use Rattle.lu.specs.BandLu.{band_entry, less_point, forward_step}
+use Rattle.lu.specs.BandLu.{band_entry, less_point}
 use Rattle.bands.specs.Bands.{reach}
-use Rattle.lu.proofs.Lengths.{length_less-point}
-use Rattle.bands.proofs.Rows.{regions-apart}
 use Rattle.lu.proofs.forward_step.Given as goal
 
 abbrev pub turn : ℕ → ℕ → Point → List Float → ℕ → List Float → List Float

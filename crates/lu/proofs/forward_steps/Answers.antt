@@ -1,7 +1,6 @@
 -- The loop's invariant: what the pivots that are left make of the points is what all of them make of those at the start. Assumes nothing.
-use Prim.Native.Nat.{◌-◌}
 use native.Mathlib.Omega.{arith}
-use Rattle.places.proofs.RegionLaws.{Going, going_start, going-turn, going_end}
+use Rattle.places.proofs.RegionLaws.{going_start, going-turn, going_end}
 use Rattle.lu.specs.BandLu.{forward_step}
 use Rattle.lu.proofs.Lengths.{length_forward_step}
 use Rattle.bands.proofs.Rows.{regions-apart}

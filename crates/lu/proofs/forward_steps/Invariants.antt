@@ -1,10 +1,7 @@
 -- The loop's invariant: what the pivots that are left make of the points is what all of them make of those at the start. Assumes nothing.
 use Prim.Native.Nat.{◌-◌}
-use native.Mathlib.Omega.{arith}
-use Rattle.places.proofs.RegionLaws.{Going, going_start, going-turn, going_end}
+use Rattle.places.proofs.RegionLaws.{Going}
 use Rattle.lu.specs.BandLu.{forward_step}
-use Rattle.lu.proofs.Lengths.{length_forward_step}
-use Rattle.bands.proofs.Rows.{regions-apart}
 use Rattle.lu.proofs.forward_steps.Given as goal
 
 abbrev pub invariant-loop-k : goal.invariant-loop-k

@@ -1,10 +1,8 @@
 -- The loop's invariant: what the places that are left make of the rest is what all of them make of it once the multiplier is put. Assumes nothing.
-use mathlib.Core.Path.{◌≡◌, refl, sym, ◌∙◌}
-use Prim.Native.Nat.{◌-◌}
+use mathlib.Core.Path.{refl, sym, ◌∙◌}
 use native.Mathlib.Omega.{arith}
-use lib.ListN.{length, length-set}
+use lib.ListN.{length-set}
 use lib.Ieee.{of_bits}
-use Rattle.places.specs.Loops.{each}
 use Rattle.places.proofs.LoopLaws.{each_step, each_done}
 use Rattle.lu.specs.BelowPivot.{less_place, less_places}
 use Rattle.lu.proofs.less_places.Goals as goal

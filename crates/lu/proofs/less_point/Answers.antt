@@ -1,6 +1,5 @@
 -- The definition, by the test. Assumes nothing.
 use mathlib.Core.Path.{◌∙◌}
-use native.Mathlib.Omega.{arith}
 use lib.Ieee.{of_bits}
 use Rattle.lu.specs.BandLu.{less_point}
 use Rattle.lu.proofs.less_point.Goals as goal

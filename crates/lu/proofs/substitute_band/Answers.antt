@@ -10,7 +10,6 @@ use Rattle.places.proofs.RegionLaws.{length_part, length-each, splice_then}
 use Rattle.lu.specs.BandLu.{forward_step, back_band_row, substitute_band}
 use Rattle.bands.specs.Shapes.{Solvable}
 use Rattle.lu.proofs.Lengths.{length_forward_step}
-use borrow.Author.Rules.{rules}
 use Rattle.lu.proofs.substitute_band.Goals as goal
 
 pub forward_narrow-requires : goal.forward_narrow-requires

@@ -1,6 +1,5 @@
 -- The knots and then the poles are copied, and the second copy leaves the first. Assumes nothing.
 use Rattle.making.proofs.SavedLaws.{poles-next, copied}
-use borrow.Author.Rules.{rules}
 use Rattle.making.proofs.copy_fit.Goals as goal
 
 pub copy_within-requires-2 : goal.copy_within-requires-2

@@ -8,7 +8,6 @@ use Rattle.making.specs.Runs.{Makes}
 use Rattle.checks.proofs.CheckLaws.{count-chosen}
 use Rattle.bspline.specs.declared.Verdict.TheVariants.{Pass}
 use mathlib.Core.Path.{◌≡◌}
-use borrow.Author.Rules.{rules}
 use Rattle.making.proofs.make.Goals as goal
 
 pub make_chosen-requires : goal.make_chosen-requires

@@ -1,7 +1,6 @@
 -- Least squares on the spread knots of the chosen count is the definition's fit, or gives none. Assumes nothing.
 use Rattle.fitting.proofs.AttemptLaws.{spread-knots}
 use Rattle.making.proofs.MakeLaws.{chosen_unfitted, chosen_fitting}
-use borrow.Author.Rules.{rules}
 use Rattle.making.proofs.make_chosen.Goals as goal
 
 pub returns-in-Unfitted : goal.returns-in-Unfitted

@@ -5,7 +5,6 @@ use Rattle.making.specs.Results.{fit_to, fit_by}
 use Rattle.fitting.specs.Jobs.{direction_of}
 use Rattle.making.specs.Runs.{Makes}
 use Rattle.checks.proofs.CheckLaws.{aim-chosen}
-use borrow.Author.Rules.{rules}
 use Rattle.making.proofs.make_direction.Goals as goal
 
 pub make_chosen-requires : goal.make_chosen-requires

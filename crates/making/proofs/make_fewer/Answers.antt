@@ -1,7 +1,6 @@
 -- The search below writes before the saved fit: where it finds none, that fit is put back and is the one that refinement gave. Assumes nothing.
 use native.Mathlib.Omega.{arith}
 use Rattle.making.proofs.SavedLaws.{few-places, saves, restores, has_put, has_searched, fewer_missed, fewer_met}
-use borrow.Author.Rules.{rules}
 use Rattle.making.proofs.make_fewer.Goals as goal
 
 pub overflow_sub-below : goal.overflow_sub-below

@@ -1,6 +1,5 @@
 -- Refinement, and then what the definition has for each of its two ends. Assumes nothing.
 use Rattle.making.proofs.SavedLaws.{has-refined, has_saved-refined, fewest_missed, fewest_met}
-use borrow.Author.Rules.{rules}
 use Rattle.making.proofs.make_fewest.Goals as goal
 
 pub make_spread-requires : goal.make_spread-requires

@@ -2,7 +2,6 @@
 use Rattle.fitting.proofs.AttemptLaws.{has_job-kept}
 use Rattle.making.proofs.MakeLaws.{spread_missed, spread_met}
 use Prim.Native.Nat.{◌+◌}
-use borrow.Author.Rules.{rules}
 use Rattle.making.proofs.make_spread.Goals as goal
 
 pub make_through-requires : goal.make_through-requires

@@ -1,6 +1,5 @@
 -- The interpolation that stands in the regions is the definition's. Assumes nothing.
 use Rattle.making.proofs.MakeLaws.{made_through}
-use borrow.Author.Rules.{rules}
 use Rattle.making.proofs.make_through.Goals as goal
 
 pub returns : goal.returns

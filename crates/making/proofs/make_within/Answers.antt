@@ -2,7 +2,6 @@
 use Rattle.fitting.proofs.AttemptLaws.{has_job-kept}
 use Rattle.making.proofs.MakeLaws.{refined_missed, refined_met}
 use Prim.Native.Nat.{◌+◌}
-use borrow.Author.Rules.{rules}
 use Rattle.making.proofs.make_within.Goals as goal
 
 pub make_spread-requires : goal.make_spread-requires

@@ -1,7 +1,6 @@
 -- The invariant: the first k places are laid with those of `from`; all of them are `from` itself. Assumes nothing.
 use mathlib.Core.Path.{◌≡◌, refl, ◌∙◌}
-use Prim.Native.Nat.{ℕ, ◌-◌, ◌≤◌}
-use lib.ListN.{length, get_or, length-set}
+use lib.ListN.{length, length-set}
 use lib.Ieee.{nan}
 use Rattle.places.specs.Places.{laid}
 use Rattle.places.proofs.PlaceLaws.{laid0-next, laid_copy}

@@ -1,11 +1,9 @@
 -- The invariant: the first k places are laid with those of `from`; all of them are `from` itself. Assumes nothing.
-use mathlib.Core.Path.{◌≡◌, refl, ◌∙◌}
+use mathlib.Core.Path.{◌≡◌}
 use Prim.Native.Nat.{ℕ, ◌-◌, ◌≤◌}
-use lib.ListN.{length, get_or, length-set}
+use lib.ListN.{length, get_or}
 use lib.Ieee.{nan}
 use Rattle.places.specs.Places.{laid}
-use Rattle.places.proofs.PlaceLaws.{laid0-next, laid_copy}
-use native.Mathlib.Omega.{arith}
 use Rattle.places.proofs.copy.Given as goal
 
 abbrev pub invariant-loop-k : goal.invariant-loop-k

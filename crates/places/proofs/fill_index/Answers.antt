@@ -1,7 +1,6 @@
 -- The invariant: the first k places are laid. Assumes nothing.
 use mathlib.Core.Path.{◌≡◌, refl}
-use Prim.Native.Nat.{ℕ, ◌-◌, ◌≤◌}
-use lib.ListN.{length, length-set}
+use lib.ListN.{length-set}
 use Rattle.places.specs.Places.{laid}
 use Rattle.places.proofs.PlaceLaws.{laid_next}
 use native.Mathlib.Omega.{arith}

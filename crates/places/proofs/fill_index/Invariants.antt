@@ -1,10 +1,8 @@
 -- The invariant: the first k places are laid. Assumes nothing.
-use mathlib.Core.Path.{◌≡◌, refl}
+use mathlib.Core.Path.{◌≡◌}
 use Prim.Native.Nat.{ℕ, ◌-◌, ◌≤◌}
-use lib.ListN.{length, length-set}
+use lib.ListN.{length}
 use Rattle.places.specs.Places.{laid}
-use Rattle.places.proofs.PlaceLaws.{laid_next}
-use native.Mathlib.Omega.{arith}
 use Rattle.places.proofs.fill_index.Given as goal
 
 abbrev pub invariant-loop-k : goal.invariant-loop-k

@@ -1,6 +1,5 @@
 -- Checks one after the other. Assumes nothing.
 use Rattle.checks.proofs.CheckLaws.{next_stop, next_pass}
-use borrow.Author.Rules.{rules}
 use Rattle.checks.proofs.grid.both.Goals as goal
 
 pub returns-in-Stop : goal.returns-in-Stop

@@ -5,7 +5,6 @@ use Rattle.bspline.specs.declared.Verdict.{Verdict}
 use Rattle.checks.specs.LadderChecks.{chosen_verdict, unchosen_verdict}
 use Rattle.checks.specs.declared.SurfaceCall.{SurfaceCall}
 use Rattle.checks.specs.GridChecks.{counts_verdict}
-use borrow.Author.Rules.{rules}
 use Rattle.checks.proofs.grid.check_counts.Goals as goal
 
 pub returns-in-Approximate : goal.returns-in-Approximate

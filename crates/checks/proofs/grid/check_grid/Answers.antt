@@ -2,7 +2,6 @@
 use mathlib.Core.Path.{sym, ◌∙◌}
 use Rattle.checks.proofs.CheckLaws.{next_stop, next_pass}
 use Rattle.checks.proofs.GridCheckLaws.{grid-shaped}
-use borrow.Author.Rules.{rules}
 use Rattle.checks.proofs.grid.check_grid.Goals as goal
 
 pub check_lent-requires : goal.check_lent-requires

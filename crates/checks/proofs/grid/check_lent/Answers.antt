@@ -1,7 +1,6 @@
 -- The first that stops counts. Assumes nothing.
 use mathlib.Core.Path.{sym, ◌∙◌}
 use Rattle.checks.proofs.CheckLaws.{next_stop, next_pass}
-use borrow.Author.Rules.{rules}
 use Rattle.checks.proofs.grid.check_lent.Goals as goal
 
 pub returns-in-Stop : goal.returns-in-Stop

@@ -4,7 +4,6 @@ use borrow.Author.Tests.{lt-ltb, le-ltb}
 use Rattle.bspline.specs.Refusals.{stop_if, ◌next◌}
 use Rattle.checks.specs.GridChecks.{grid_room_verdict}
 use Rattle.checks.proofs.GridCheckLaws.{points-few}
-use borrow.Author.Rules.{rules}
 use Rattle.checks.proofs.grid.check_room.Goals as goal
 
 pub overflow_mul-shape : goal.overflow_mul-shape

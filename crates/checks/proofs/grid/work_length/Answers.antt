@@ -1,7 +1,6 @@
 -- The definition; the numbers are small, so nothing wraps. Assumes nothing.
 use native.Mathlib.Omega.{arith}
 use Rattle.checks.proofs.GridCheckLaws.{points-few, places-few}
-use borrow.Author.Rules.{rules}
 use Rattle.checks.proofs.grid.work_length.Goals as goal
 
 pub overflow_mul-points : goal.overflow_mul-points

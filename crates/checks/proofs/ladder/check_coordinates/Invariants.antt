@@ -1,15 +1,11 @@
 -- The invariant: none of the first k coordinates is outside. Assumes nothing.
-use mathlib.Core.Path.{◌≡◌, sym, ◌∙◌}
+use mathlib.Core.Path.{◌≡◌}
 use mathlib.Core.Bool.{false}
 use Prim.Native.Nat.{◌-◌, ◌≤◌}
 use lib.ListN.{length}
 use Rattle.places.specs.Places.{some_below}
-use Rattle.places.proofs.PlaceLaws.{some-none, some_here, some_next}
 use Rattle.geometry.specs.Doubles.{at}
-use Rattle.bspline.specs.Refusals.{outside, stop_if}
-use Rattle.checks.specs.LadderChecks.{coordinates_verdict}
-use native.Mathlib.Omega.{arith}
-use borrow.Author.Rules.{rules}
+use Rattle.bspline.specs.Refusals.{outside}
 use Rattle.checks.proofs.ladder.check_coordinates.Given as goal
 
 abbrev pub invariant-loop-k : goal.invariant-loop-k

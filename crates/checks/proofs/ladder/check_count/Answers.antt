@@ -2,7 +2,6 @@
 use mathlib.Core.Path.{◌∙◌, sym, ap}
 use Rattle.checks.specs.declared.Call.{Call}
 use Rattle.checks.specs.LadderChecks.{count_verdict}
-use borrow.Author.Rules.{rules}
 use Rattle.checks.proofs.ladder.check_count.Goals as goal
 
 pub returns-in-Interpolate : goal.returns-in-Interpolate

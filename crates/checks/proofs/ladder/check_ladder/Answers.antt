@@ -1,7 +1,6 @@
 -- The first that stops counts, and what passes the shape's checks is small enough for those after it. Assumes nothing.
 use mathlib.Core.Path.{sym, ◌∙◌}
 use Rattle.checks.proofs.CheckLaws.{next_stop, next_pass, shape_pass}
-use borrow.Author.Rules.{rules}
 use Rattle.checks.proofs.ladder.check_ladder.Goals as goal
 
 pub check_poles-requires : goal.check_poles-requires

@@ -4,7 +4,6 @@ use Rattle.bspline.specs.Refusals.{stop_if, ◌next◌}
 use Rattle.checks.specs.LadderChecks.{room_verdict}
 use Rattle.checks.proofs.CheckLaws.{small}
 use native.Mathlib.Omega.{arith}
-use borrow.Author.Rules.{rules}
 use Rattle.checks.proofs.ladder.check_room.Goals as goal
 
 pub returns-then-room-n : goal.returns-then-room-n

@@ -1,9 +1,7 @@
 -- The definition, test by test. Assumes nothing.
-use Prim.Native.Nat.{◌-◌}
 use borrow.Author.Tests.{lt-ltb, le-ltb}
 use Rattle.bspline.specs.Refusals.{stop_if}
 use Rattle.checks.specs.LadderChecks.{unchosen_verdict}
-use borrow.Author.Rules.{rules}
 use Rattle.checks.proofs.ladder.check_unchosen.Goals as goal
 
 pub returns-then-one_less-degree : goal.returns-then-one_less-degree

@@ -1,5 +1,4 @@
 -- The spacing by its number, and the call. Assumes nothing.
-use borrow.Author.Rules.{rules}
 use Rattle.interface.proofs.grid_calls.nigorzai_approximate_grid.Goals as goal
 
 pub returns : goal.returns

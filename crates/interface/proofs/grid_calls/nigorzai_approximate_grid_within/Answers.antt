@@ -1,6 +1,5 @@
 -- The spacing by its number, and the call; what it tells keeps demand 3. Assumes nothing.
 use Rattle.telling.proofs.ToldGridLaws.{told_grid-within}
-use borrow.Author.Rules.{rules}
 use Rattle.interface.proofs.grid_calls.nigorzai_approximate_grid_within.Goals as goal
 
 pub returns : goal.returns

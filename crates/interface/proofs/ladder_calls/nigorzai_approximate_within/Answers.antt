@@ -1,6 +1,5 @@
 -- The spacing by its number, and the call; what it tells keeps demand 3. Assumes nothing.
 use Rattle.telling.proofs.ToldLaws.{told-within}
-use borrow.Author.Rules.{rules}
 use Rattle.interface.proofs.ladder_calls.nigorzai_approximate_within.Goals as goal
 
 pub returns : goal.returns

@@ -2,7 +2,6 @@
 use mathlib.Core.Path.{sym, ◌∙◌}
 use borrow.Author.Tests.{lt-ltb, le-ltb}
 use Rattle.bspline.specs.Reader.{reading_number}
-use borrow.Author.Rules.{rules}
 use Rattle.interface.proofs.reading.nigorzai_read.Goals as goal
 
 pub returns-then-out-lt3 : goal.returns-then-out-lt3

@@ -14,7 +14,6 @@ use Rattle.geometry.proofs.PointLaws.{length_put-point, point_put, point_stays}
 use Rattle.lu.specs.BandLu.{back_band_row}
 use Rattle.lu.specs.Narrow.{Known}
 use Rattle.lu.proofs.NarrowLaws.{back_solved}
-use borrow.Author.Rules.{rules}
 use Rattle.lu.proofs.narrow.back_ahead.Goals as goal
 
 pub returns : goal.returns

@@ -4,7 +4,6 @@ use Prim.Native.Nat.{◌+◌}
 use native.Mathlib.Omega.{arith}
 use Rattle.geometry.specs.Points.{point_at}
 use Rattle.lu.proofs.NarrowLaws.{solved-two}
-use borrow.Author.Rules.{rules}
 use Rattle.lu.proofs.narrow.back_known.Goals as goal
 
 pub returns : goal.returns

@@ -12,7 +12,6 @@ use Rattle.lu.specs.BandLu.{back_band_row}
 use Rattle.lu.proofs.Lengths.{length-back_band-row}
 use Rattle.bands.proofs.Rows.{regions-apart}
 use Rattle.lu.proofs.NarrowLaws.{back_solved}
-use borrow.Author.Rules.{rules}
 use Rattle.lu.proofs.narrow.back_narrow.Goals as goal
 
 pub returns : goal.returns

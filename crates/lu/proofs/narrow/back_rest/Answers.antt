@@ -1,16 +1,13 @@
 -- The loop's invariant: what the rows that are left make of the points is what all of them make of those at the start, and two points are known. Assumes nothing.
 use mathlib.Core.Path.{◌≡◌}
-use Prim.Native.Nat.{◌+◌, ◌-◌, ◌≤◌}
+use Prim.Native.Nat.{◌+◌, ◌-◌}
 use native.Mathlib.Omega.{arith}
 use lib.ListN.{length}
-use Rattle.places.specs.Regions.{part}
-use Rattle.places.proofs.RegionLaws.{GoingDown, down-start, down_turn, down_end}
+use Rattle.places.proofs.RegionLaws.{down-start, down_turn, down_end}
 use Rattle.lu.specs.BandLu.{back_band_row}
-use Rattle.lu.specs.Narrow.{Known}
 use Rattle.bands.specs.Shapes.{Solvable}
 use Rattle.lu.proofs.Lengths.{length-back_band-row}
 use Rattle.bands.proofs.Rows.{regions-apart}
-use borrow.Author.Rules.{rules}
 use Rattle.lu.proofs.narrow.back_rest.Goals as goal
 
 pub loop-i-init : goal.loop-i-init

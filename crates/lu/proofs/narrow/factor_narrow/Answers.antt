@@ -1,12 +1,9 @@
 -- The loop's invariant: what the pivots that are left make of the band is what all of them make of it, and what the next needs is carried. Assumes nothing.
 use mathlib.Core.Path.{◌≡◌, refl, sym, ◌∙◌}
-use Prim.Native.Nat.{◌-◌, ◌≤◌}
+use Prim.Native.Nat.{◌-◌}
 use native.Mathlib.Omega.{arith}
-use lib.ListN.{length}
-use Rattle.places.specs.Loops.{each}
 use Rattle.places.proofs.LoopLaws.{each_step}
-use Rattle.lu.specs.BandLu.{eliminate, factor_band}
-use Rattle.lu.specs.Narrow.{Carried}
+use Rattle.lu.specs.BandLu.{factor_band}
 use Rattle.lu.proofs.narrow.factor_narrow.Goals as goal
 
 pub returns-then-n-lt2 : goal.returns-then-n-lt2

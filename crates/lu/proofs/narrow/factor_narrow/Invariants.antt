@@ -1,10 +1,8 @@
 -- The loop's invariant: what the pivots that are left make of the band is what all of them make of it, and what the next needs is carried. Assumes nothing.
-use mathlib.Core.Path.{◌≡◌, refl, sym, ◌∙◌}
+use mathlib.Core.Path.{◌≡◌}
 use Prim.Native.Nat.{◌-◌, ◌≤◌}
-use native.Mathlib.Omega.{arith}
 use lib.ListN.{length}
 use Rattle.places.specs.Loops.{each}
-use Rattle.places.proofs.LoopLaws.{each_step}
 use Rattle.lu.specs.BandLu.{eliminate, factor_band}
 use Rattle.lu.specs.Narrow.{Carried}
 use Rattle.lu.proofs.narrow.factor_narrow.Given as goal

@@ -11,7 +11,6 @@ use Rattle.lu.specs.BandLu.{forward_step}
 use Rattle.lu.specs.Narrow.{Known}
 use Rattle.lu.proofs.Lengths.{length_forward_step}
 use Rattle.lu.proofs.NarrowLaws.{forward-two}
-use borrow.Author.Rules.{rules}
 use Rattle.lu.proofs.narrow.forward_ahead.Goals as goal
 
 pub returns : goal.returns

@@ -1,14 +1,11 @@
 -- The loop's invariant: what the pivots that are left make of the points is what all of them make of those at the start, and two points are known. Assumes nothing.
 use mathlib.Core.Path.{◌≡◌}
-use Prim.Native.Nat.{◌+◌, ◌-◌, ◌≤◌}
+use Prim.Native.Nat.{◌+◌, ◌-◌}
 use native.Mathlib.Omega.{arith}
-use Rattle.places.specs.Regions.{part}
-use Rattle.places.proofs.RegionLaws.{Going, going_start, going-turn, going_end}
+use Rattle.places.proofs.RegionLaws.{going_start, going-turn, going_end}
 use Rattle.lu.specs.BandLu.{forward_step}
-use Rattle.lu.specs.Narrow.{Known}
 use Rattle.lu.proofs.Lengths.{length_forward_step}
 use Rattle.bands.proofs.Rows.{regions-apart}
-use borrow.Author.Rules.{rules}
 use Rattle.lu.proofs.narrow.forward_narrow.Goals as goal
 
 pub returns-then-n-lt2 : goal.returns-then-n-lt2

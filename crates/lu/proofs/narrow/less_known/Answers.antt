@@ -6,7 +6,6 @@ use lib.Ieee.{Float, of_bits}
 use Rattle.geometry.specs.Points.{point_at}
 use Rattle.geometry.proofs.PointLaws.{point_put}
 use Rattle.lu.specs.BandLu.{less_point}
-use borrow.Author.Rules.{rules}
 use Rattle.lu.proofs.narrow.less_known.Goals as goal
 
 pub returns-then-factor : goal.returns-then-factor

@@ -7,7 +7,6 @@ use lib.Ieee.{Float}
 use Rattle.geometry.specs.Points.{point_at}
 use Rattle.lu.specs.BandLu.{less_point}
 use Rattle.lu.proofs.NarrowLaws.{less_stays}
-use borrow.Author.Rules.{rules}
 use Rattle.lu.proofs.narrow.less_two.Goals as goal
 
 pub returns : goal.returns

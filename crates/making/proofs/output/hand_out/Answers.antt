@@ -2,7 +2,6 @@
 use Prim.Native.Nat.{◌+◌, ◌*◌}
 use native.Mathlib.Omega.{arith}
 use Rattle.making.proofs.HandedLaws.{handed_copy}
-use borrow.Author.Rules.{rules}
 use Rattle.making.proofs.output.hand_out.Goals as goal
 
 pub returns : goal.returns

@@ -1,6 +1,5 @@
 -- The test is the definition's; a step that is doubled was below the width, so it fits.
 use borrow.Author.Tests.{lt-ltb, le-ltb}
-use borrow.Author.Rules.{rules}
 use Rattle.search.proofs.Search.failed.Goals as goal
 
 pub returns-then-step-self : goal.returns-then-step-self

@@ -1,6 +1,5 @@
 -- The two tests are the definition's, and a count lies below `high`.
 use borrow.Author.Tests.{le-leb, lt-leb, lt-ltb, le-ltb}
-use borrow.Author.Rules.{rules}
 use Rattle.search.proofs.Search.next.Goals as goal
 
 pub returns-then-width-le1 : goal.returns-then-width-le1
