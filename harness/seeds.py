@@ -34,6 +34,7 @@ def word(i):
 def main():
     print("// Guesses at 1/√x for x from 1 to 4, one parabola for each of 512 ranges (written by harness/seeds.py). Nothing has to hold of these numbers: whoever takes a")
     print("// guess tests what comes of it. The match becomes a table in the program's constant data.")
+    print("#![tactic(auto)]")
     print("\n// The parabola of range i, from its lower end: 2^32 times the value there, in parts of 2^32, and the slope, in parts of 2^41; the last 11 digits are also the")
     print("// bend, in parts of 2^28.")
     print("pub fn word(i: u64) -> u64 {\n    match i {")
