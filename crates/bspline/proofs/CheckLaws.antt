@@ -43,17 +43,17 @@ pub passed : (v w : Verdict) (q : Point) (r : Reading) → v ≡ Pass → r ≡ 
 unfolding ◌next◌
 passed v w q r e f = rw e f
 
-number_of : (v : Verdict) (q : Point) → reading_number (reading_of v q) ≡ verdict_number v
+reading_number-reading_of : (v : Verdict) (q : Point) → reading_number (reading_of v q) ≡ verdict_number v
 unfolding reading_of reading_number verdict_number
-number_of Pass q = refl
-number_of (Stop c) q = refl
+reading_number-reading_of Pass q = refl
+reading_number-reading_of (Stop c) q = refl
 
 -- the contract from its answer
 pub reads : (poles : List Float) (d : ℕ) (knots : List Float) (mults : List ℕ) (u : Float) (r : Reading)
     → r ≡ reading_of (reader_verdict poles d knots mults u) (curve_point (flat_knots knots mults) d poles u) → Reads poles d knots mults u r
 reads poles d knots mults u r e = record {
   answer = e;
-  number = ap reading_number e ∙ number_of (reader_verdict poles d knots mults u) (curve_point (flat_knots knots mults) d poles u);
+  number = ap reading_number e ∙ reading_number-reading_of (reader_verdict poles d knots mults u) (curve_point (flat_knots knots mults) d poles u);
 }
 
 -- ---- what the checks give

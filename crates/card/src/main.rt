@@ -10,6 +10,7 @@ ghost use Rattle.card.specs.Answers.{Answered};
 ghost use Rattle.card.specs.Input.{HeldIn, Took};
 
 use card_reader::State;
+use std::io::{Read, Stdin};
 
 // What one read brought.
 #[derive(Clone, Copy)]
@@ -19,12 +20,15 @@ enum Input {
 }
 
 // Reads a part of the text. A read that brings no byte, at the end or because it failed, ends it.
-fn read_some(state: State, points: &mut [f64]) -> Input
+fn read_some(mut stdin: Stdin, state: State, points: &mut [f64]) -> Input
     requires { Held state × (192 ≤ length points.old) }
     ensures { HeldIn result × Took state points.old points.new result }
 {
     let mut buffer = io::large_buffer();
-    let n = io::read_full(0, &mut buffer);
+    let n = match stdin.read(&mut buffer) {
+        Ok(count) => count,
+        Err(_) => 0,
+    };
     if n == 0 {
         return Input::End(state);
     }
@@ -32,7 +36,7 @@ fn read_some(state: State, points: &mut [f64]) -> Input
 }
 
 // Reads to the end. Nothing says that an input ends, so the reads are counted down from a number that no run uses up.
-fn read_all(points: &mut [f64]) -> State
+fn read_all(stdin: Stdin, points: &mut [f64]) -> State
     requires { 192 ≤ length points.old }
     ensures { (t : List ℕ) × HasRead t points.old result points.new }
 {
@@ -40,7 +44,7 @@ fn read_all(points: &mut [f64]) -> State
     let mut reads = 18446744073709551615u64;
     while reads > 0 {
         reads -= 1;
-        match read_some(state, points) {
+        match read_some(stdin, state, points) {
             Input::More(next) => {
                 state = next;
             }
@@ -53,17 +57,17 @@ fn read_all(points: &mut [f64]) -> State
 }
 
 // Reads a text to its end, and puts the text of its answer at the front of out. Answers how long that is.
-fn run(out: &mut [u8]) -> usize
+fn run(stdin: Stdin, out: &mut [u8]) -> usize
     requires { 8192 ≤ length out.old }
     ensures { ((t : List ℕ) × Answered t (take result out.new)) × (drop result out.new ≡ drop result out.old) × IsPrefixLen result out.new }
 {
     let mut points = [0.0; 192];
-    let state = read_all(&mut points);
+    let state = read_all(stdin, &mut points);
     answer::answer(state.finish(), &points, out)
 }
 
-fn main() {
+fn main(rt: HostRuntime) {
     let mut out = [0u8; 8192];
-    let n = run(&mut out);
+    let n = run(rt.stdin(), &mut out);
     io::write_all(1, &out[..n]);
 }

@@ -158,10 +158,10 @@ module _ (v : Spacing) (s : List Float) (degree : ℕ) (fit : Direction → Resu
 
 -- ---- a whole call
 
-number_of : (degree : ℕ) (fit : Result) → answer_number (answer_of degree fit) ≡ result_number fit
+answer_number-answer_of : (degree : ℕ) (fit : Result) → answer_number (answer_of degree fit) ≡ result_number fit
 unfolding answer_number answer_of result_number
-number_of degree (refused c) = refl
-number_of degree (accepted a) = refl
+answer_number-answer_of degree (refused c) = refl
+answer_number-answer_of degree (accepted a) = refl
 
 module _ (call : Call) (s : List Float) (degree : ℕ) (v : Spacing) where
   pub call-refused : (c : Refusal) (l : Lent) → Stop c ≡ ladder_checks call s degree l → LadderCall call s degree v l l (Refused c)
@@ -186,7 +186,7 @@ module _ (call : Call) (s : List Float) (degree : ℕ) (v : Spacing) where
       let q : result_of call s degree v l ≡ ladder_fit v s degree (fit_by call) = ap (λ (u : Verdict). checked u (ladder_fit v s degree (fit_by call))) (sym e) in
       record {
         hands = record { answer = h.answer ∙ ap (answer_of degree) (sym q); poles = h.poles ∙ ap (λ (x : Result). handed_poles x poles) (sym q); flat = h.flat ∙ ap (λ (x : Result). handed_flat x flat) (sym q); knots = h.knots ∙ ap (λ (x : Result). handed_knots x knots) (sym q); mults = h.mults ∙ ap (λ (x : Result). handed_mults x mults) (sym q) };
-        number = ap answer_number (h.answer ∙ ap (answer_of degree) (sym q)) ∙ number_of degree (result_of call s degree v l);
+        number = ap answer_number (h.answer ∙ ap (answer_of degree) (sym q)) ∙ answer_number-answer_of degree (result_of call s degree v l);
         work = w ∙ ap (λ (u : Verdict). cleared nought u work) e;
         index = i ∙ ap (λ (u : Verdict). cleared 0 u index) e;
       }

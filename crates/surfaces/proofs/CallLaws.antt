@@ -19,10 +19,10 @@ use Rattle.grids.specs.Grids.{GridResult, grid_refused, grid_accepted, grid_chec
 use Rattle.grids.proofs.GridRunLaws.{grid-refused}
 
 module _ (call : SurfaceCall) (points : List Float) (h : Shape) (v : Spacing) where
-  number_of : (fit : GridResult) → grid_answer_number (grid_answer_of h fit) ≡ grid_result_number fit
+  grid_answer_number-grid_answer_of : (fit : GridResult) → grid_answer_number (grid_answer_of h fit) ≡ grid_result_number fit
   unfolding grid_answer_number grid_answer_of grid_result_number
-  number_of (grid_refused c) = refl
-  number_of (grid_accepted a b) = refl
+  grid_answer_number-grid_answer_of (grid_refused c) = refl
+  grid_answer_number-grid_answer_of (grid_accepted a b) = refl
 
   pub call-refused : (c : Refusal) (l : GridLent) → Stop c ≡ grid_checks (grid_of points h v) (grid_room_of l) → GridCall call (grid_of points h v) l l (Refused c)
   unfolding grid_result_of grid_checked grid_answer_number grid_result_number cleared
@@ -49,7 +49,7 @@ module _ (call : SurfaceCall) (points : List Float) (h : Shape) (v : Spacing) wh
         hands =
             subst (λ (f : GridResult). HandsOutGrid h f l (grid_lent poles' uFlat' uKnots' uMults' vFlat' vKnots' vMults' work' index') r) (sym q)
             (record { answer = x.answer; poles = x.poles; u_flat = x.u_flat; u_knots = x.u_knots; u_mults = x.u_mults; v_flat = x.v_flat; v_knots = x.v_knots; v_mults = x.v_mults });
-        number = ap grid_answer_number (x.answer ∙ ap (grid_answer_of h) (sym q)) ∙ number_of (grid_result_of call (grid_of points h v) l);
+        number = ap grid_answer_number (x.answer ∙ ap (grid_answer_of h) (sym q)) ∙ grid_answer_number-grid_answer_of (grid_result_of call (grid_of points h v) l);
         work = w ∙ ap (λ (a : Verdict). cleared nought a work) e;
         index = i ∙ ap (λ (a : Verdict). cleared 0 a index) e;
       }

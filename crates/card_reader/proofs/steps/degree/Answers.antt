@@ -33,7 +33,7 @@ overflow_add-value c = let r = more_room 10 9 c.args.k c.args.v c.digit-d.result
 
 pub returns-then-d-lt10 : goal.returns-then-d-lt10
 unfolding degree_next
-returns-then-d-lt10 c = rw (ne_eqb _ _ c.if-b-eq32.false, ← c.digit-d.ensures, lt-ltb _ _ c.if-d-lt10.true, ne_eqb _ _ c.if-k-eq0-2.false, ne_eqb _ _ c.if-k-eq9.false, ne_eqb _ _ c.if-v-eq0.false)
+returns-then-d-lt10 c = rw (ne_eqb _ _ c.if-b-eq32.false, ← c.digit-d.ensures, lt-ltb _ _ c.if-d-lt10.true, ne_eqb _ _ c.if-k-eq0-2.false, ne_eqb _ _ c.if-k-eq9.false, ne_eqb c.args.v 0 (λ e. omega arith))
 
 pub returns : goal.returns
 unfolding degree_next

@@ -1,4 +1,5 @@
 -- By the kind: each branch measures what the definition names for it. Assumes nothing.
+use native.Mathlib.Omega.{arith}
 use Rattle.fitting.proofs.MeasureLaws.{ladder_requires, measures-ladder, rows_requires, measures-rows, is-columns, columns_require, measures-columns}
 use Rattle.fitting.proofs.attempts.measure.Goals as goal
 
@@ -16,7 +17,7 @@ returns-then-given-eq-LADDER c =
 pub row_deviations-requires : goal.row_deviations-requires
 row_deviations-requires c =
     let a = c.args in
-    rows_requires a.job a.points.now a.work.now a.index.now c.requires.0 a.m c.requires.1.0 c.requires.1.1 c.if-given-eq-ROWS.true
+    rows_requires a.job a.points.now a.work.now a.index.now c.requires.0 a.m c.requires.1.0 c.requires.1.1 (omega arith)
 
 pub returns-then-given-eq-ROWS : goal.returns-then-given-eq-ROWS
 returns-then-given-eq-ROWS c =
