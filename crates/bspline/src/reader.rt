@@ -49,8 +49,8 @@ fn window_point(
     u: f64,
     row: &mut [f64],
 ) -> Point
-    requires degree_bound { (degree ≤ 25) × (degree ≤ span) × (span + degree < length flat.now) × (3 * (span + 1) ≤ length poles.now) }
-    requires degree_in_bounds { 3 * degree + 2 ≤ length row.old }
+    requires fits { (degree ≤ 25) × (degree ≤ span) × (span + degree < length flat.now) × (3 * (span + 1) ≤ length poles.now) }
+    requires room { 3 * degree + 2 ≤ length row.old }
     ensures { result ≡ weighted (degree + 1) (at (basis_at flat.now degree span u)) (λ a. point_at poles.now (span - degree + a)) }
 {
     let from = span - degree;
@@ -76,7 +76,7 @@ pub fn span_point(flat: &[f64], degree: usize, span: usize, poles: &[f64], u: f6
 
 // The point at u of a curve whose flat knots never fall: u is clamped into the range.
 pub fn curve_point(flat: &[f64], degree: usize, poles: &[f64], u: f64) -> Point
-    requires degree_bound { (degree ≤ 25) × (2 * degree + 2 ≤ length flat.now) × (3 * (length flat.now - degree - 1) ≤ length poles.now) }
+    requires fits { (degree ≤ 25) × (2 * degree + 2 ≤ length flat.now) × (3 * (length flat.now - degree - 1) ≤ length poles.now) }
     requires never_falls { NeverFalls flat.now }
     ensures { result ≡ curve_point flat.now degree poles.now u }
 {

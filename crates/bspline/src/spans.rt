@@ -31,8 +31,8 @@ pub fn clamped(u: f64, a: f64, b: f64) -> f64
 
 // The last of the `count` spans from lo on that begins at or below u, found by halving: those that begin at or below u stand first.
 fn halve(flat: &[f64], lo: usize, count: usize, u: f64) -> usize
-    requires le_count { (1 ≤ count) × (lo + count < length flat.now) }
-    requires by_index { (s k : ℕ) → s ≤ k → k < lo + count → begins flat.now u k ≡ true → begins flat.now u s ≡ true }
+    requires within { (1 ≤ count) × (lo + count < length flat.now) }
+    requires begin_first { (s k : ℕ) → s ≤ k → k < lo + count → begins flat.now u k ≡ true → begins flat.now u s ≡ true }
     ensures { result ≡ last_with (begins flat.now u) lo (count - 1) }
 {
     let mut span = lo;
@@ -61,7 +61,7 @@ fn step_back(flat: &[f64], lo: usize, from: usize) -> usize
 
 // The span of a curve of the degree that holds u, which lies in its range.
 pub fn span_of(flat: &[f64], degree: usize, u: f64) -> usize
-    requires degree_in_bounds { 2 * degree + 2 ≤ length flat.now }
+    requires long { 2 * degree + 2 ≤ length flat.now }
     requires never_falls { NeverFalls flat.now }
     ensures { result ≡ span_of flat.now degree u }
 {

@@ -53,7 +53,7 @@ pub extern "C" fn pieces_curve_point(
     u: f64,
     out: &mut [f64],
 )
-    requires degree_bound { (degree ≤ 25) × (2 * degree + 2 ≤ length flat.now) × (3 * (length flat.now - degree - 1) ≤ length poles.now) }
+    requires fits { (degree ≤ 25) × (2 * degree + 2 ≤ length flat.now) × (3 * (length flat.now - degree - 1) ≤ length poles.now) }
     requires never_falls { NeverFalls flat.now × (3 ≤ length out.old) }
     ensures { out.new ≡ put_point 0 (curve_point flat.now degree poles.now u) out.old }
 {

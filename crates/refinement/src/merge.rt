@@ -7,8 +7,8 @@ ghost use Rattle.geometry.specs.Order.{rank_of, sorted_onto, sorted, Ascending};
 // Whether v goes behind the i values from f on, which are sorted.
 fn goes_last(work: &[f64], f: usize, i: usize, v: f64) -> bool
     requires { f + i ≤ length work.now }
-    ensures i_bound { result ≡ true → 0 < i → rank_of (at work.now (f + i - 1)) ≤ rank_of v }
-    ensures i_nonzero { result ≡ false → (0 < i) × (rank_of v < rank_of (at work.now (f + i - 1))) }
+    ensures last { result ≡ true → 0 < i → rank_of (at work.now (f + i - 1)) ≤ rank_of v }
+    ensures not_last { result ≡ false → (0 < i) × (rank_of v < rank_of (at work.now (f + i - 1))) }
 {
     if i == 0 {
         return true;
@@ -19,7 +19,7 @@ fn goes_last(work: &[f64], f: usize, i: usize, v: f64) -> bool
 
 // The l values from f on and the m from g on, both sorted, are merged from the back, into the places from f on.
 fn merge_back(work: &mut [f64], f: usize, l: usize, g: usize, m: usize)
-    requires m_bound { (f + l + m ≤ g) × (g + m ≤ length work.old) }
+    requires apart { (f + l + m ≤ g) × (g + m ≤ length work.old) }
     requires ascending { Ascending (part f (f + l) work.old) × Ascending (part g (g + m) work.old) }
     ensures { work.new ≡ splice f (f + (l + m)) (sorted_onto (part f (f + l) work.old) (part g (g + m) work.old)) work.old }
 {

@@ -105,8 +105,8 @@ pub fn push_knots(
     threshold: f64,
 )
     requires rising { Rising ends.now × Within (q - p) ends.now }
-    requires p_le_q { (p ≤ q) × ((q ≤ to) × ((e ≡ d + length ends.now) × (e ≤ to))) }
-    requires work_in_bounds { to + length (knots_in p q d e ends.now tolerance threshold work.old) ≤ length work.old }
+    requires in_order { (p ≤ q) × ((q ≤ to) × ((e ≡ d + length ends.now) × (e ≤ to))) }
+    requires room { to + length (knots_in p q d e ends.now tolerance threshold work.old) ≤ length work.old }
     ensures { work.new ≡ splice to (to + length (knots_in p q d e ends.now tolerance threshold work.old)) (knots_in p q d e ends.now tolerance threshold work.old) work.old }
 {
     let mut at = to;

@@ -87,7 +87,7 @@ fn add_row(work: &mut [f64], row: usize, band: usize, end: usize, p: usize, firs
 // The products of all rows.
 fn add_rows(work: &mut [f64], index: &[usize], table: Table, m: usize, band: usize)
     requires has_table { HasTable table m work.old index.now }
-    requires degree_bound { (table.values + table.count * (table.degree + 1) ≤ band) × (band + m * (table.degree + 1) ≤ length work.old) }
+    requires regions { (table.values + table.count * (table.degree + 1) ≤ band) × (band + m * (table.degree + 1) ≤ length work.old) }
     ensures { work.new ≡ splice band (band + m * (table.degree + 1))
         (each 0 table.count (λ (k : ℕ). each 0 (table.degree + 1) (λ (a : ℕ). each 0 (a + 1) (add_product (table_in table work.old index.now) k a)))
         (part band (band + m * (table.degree + 1)) work.old)) work.old }
@@ -106,7 +106,7 @@ fn add_rows(work: &mut [f64], index: &[usize], table: Table, m: usize, band: usi
 // The lower half-band of A'A, for m poles, at `band`.
 pub fn normal_matrix(work: &mut [f64], index: &[usize], table: Table, m: usize, band: usize)
     requires has_table { HasTable table m work.old index.now }
-    requires degree_bound { (table.values + table.count * (table.degree + 1) ≤ band) × (band + m * (table.degree + 1) ≤ length work.old) }
+    requires regions { (table.values + table.count * (table.degree + 1) ≤ band) × (band + m * (table.degree + 1) ≤ length work.old) }
     ensures { work.new ≡ splice band (band + m * (table.degree + 1))
         (normal_matrix (table_in table work.old index.now) m) work.old }
 {
@@ -148,7 +148,7 @@ fn add_data(
     poles: usize,
 )
     requires has_table { HasTable table m work.old index.now × HasData given table.count poles points.now work.old × (r < given.lines) }
-    requires degree_bound { (table.values + table.count * (table.degree + 1) ≤ poles) × (poles + 3 * m ≤ length work.old) }
+    requires regions { (table.values + table.count * (table.degree + 1) ≤ poles) × (poles + 3 * m ≤ length work.old) }
     ensures { work.new ≡ splice poles (poles + 3 * m)
         (each 0 table.count (λ (k : ℕ). each 0 (table.degree + 1) (add_datum (table_in table work.old index.now) k (data_point given points.now work.old r k)))
         (part poles (poles + 3 * m) work.old)) work.old }
@@ -177,7 +177,7 @@ pub fn right_hand(
     poles: usize,
 )
     requires has_table { HasTable table m work.old index.now × HasData given table.count poles points.now work.old × (r < given.lines) }
-    requires degree_bound { (table.values + table.count * (table.degree + 1) ≤ poles) × (poles + 3 * m ≤ length work.old) }
+    requires regions { (table.values + table.count * (table.degree + 1) ≤ poles) × (poles + 3 * m ≤ length work.old) }
     ensures { work.new ≡ splice poles (poles + 3 * m)
         (right_hand (table_in table work.old index.now) m (data_point given points.now work.old r)) work.old }
 {
@@ -211,7 +211,7 @@ fn solve_line(
     poles: usize,
 )
     requires has_table { HasTable table m work.old index.now × HasData given table.count band points.now work.old × (r < given.lines) }
-    requires degree_bound { (table.values + table.count * (table.degree + 1) ≤ band) × (band + m * (table.degree + 1) ≤ poles) × (poles + 3 * m ≤ length work.old) }
+    requires regions { (table.values + table.count * (table.degree + 1) ≤ band) × (band + m * (table.degree + 1) ≤ poles) × (poles + 3 * m ≤ length work.old) }
     ensures { work.new ≡ splice poles (poles + 3 * m)
         (substitute_symmetric_band table.degree m (part band (band + m * (table.degree + 1)) work.old)
         (right_hand (table_in table work.old index.now) m (data_point given points.now work.old r))) work.old }

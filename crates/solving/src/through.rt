@@ -34,8 +34,8 @@ fn put_row(
     from: usize,
     width: usize,
 )
-    requires width_bound { (from + width ≤ band) × (band ≤ end) × (end ≤ length work.old) }
-    requires h_bound { (first + width + h < 2 ^ 64) × (j * (2 * h + 1) + (2 * h + 1) ≤ end - band) }
+    requires within { (from + width ≤ band) × (band ≤ end) × (end ≤ length work.old) }
+    requires row_fits { (first + width + h < 2 ^ 64) × (j * (2 * h + 1) + (2 * h + 1) ≤ end - band) }
     ensures { work.new ≡ splice band end (each 0 width (put_column h j first (part from (from + width) work.old)) (part band end work.old)) work.old }
 {
     for a in 0..width {

@@ -9,11 +9,11 @@ pub loop-k-init : goal.loop-k-init
 loop-k-init c = (omega arith, rw c.point_at-x.ensures)
 
 pub loop-k-preserved : goal.loop-k-preserved
-loop-k-preserved c = let at = c in
-    let a = at.args in
-    (omega arith, rw (c.less_scaled-x.ensures, c.point_at.ensures, c.band_entry.ensures) (sym (each_step at.loop-k.k a.end (turn a.w a.h a.factors.now a.poles.now a.i) at.loop-k.x (omega arith)) ∙ at.loop-k.invariant.1))
+loop-k-preserved c =
+    let a = c.args in
+    (omega arith, rw (c.less_scaled-x.ensures, c.point_at.ensures, c.band_entry.ensures) (sym (each_step c.loop-k.k a.end (turn a.w a.h a.factors.now a.poles.now a.i) c.loop-k.x (omega arith)) ∙ c.loop-k.invariant.1))
 
 pub returns : goal.returns
-returns c = let at = c in
-    let a = at.args in
-    c.scaled.ensures ∙ rw (← at.loop-k.invariant.1, each_done at.loop-k.k a.end (turn a.w a.h a.factors.now a.poles.now a.i) at.loop-k.x (omega arith), c.band_entry-2.ensures)
+returns c =
+    let a = c.args in
+    c.scaled.ensures ∙ rw (← c.loop-k.invariant.1, each_done c.loop-k.k a.end (turn a.w a.h a.factors.now a.poles.now a.i) c.loop-k.x (omega arith), c.band_entry-2.ensures)

@@ -17,13 +17,15 @@ pub read_some-requires : goal.read_some-requires
 read_some-requires c = (c.loop-reads.invariant.0, omega arith)
 
 pub loop-reads-preserved : goal.loop-reads-preserved
-loop-reads-preserved c = let read = c.read_some in
+loop-reads-preserved c =
+    let read = c.read_some in
     let so_far = c.loop-reads.invariant.2 in
     let took = subst (Took _ _ _) c.in-More.is read.ensures.1 in
     (subst HeldIn c.in-More.is read.ensures.0, omega arith, (so_far.0 ++ took.0, read_more took.0 so_far.1 took.2 took.3))
 
 pub returns-in-End : goal.returns-in-End
-returns-in-End c = let so_far = c.loop-reads.invariant.2 in
+returns-in-End c =
+    let so_far = c.loop-reads.invariant.2 in
     let took = subst (Took _ _ _) c.in-End.is c.read_some.ensures.1 in
     (so_far.0, rw (took.0, took.1) so_far.1)
 

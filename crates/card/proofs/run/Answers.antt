@@ -6,7 +6,8 @@ use Rattle.card.proofs.TextLaws.{read_answered}
 use Rattle.card.proofs.run.Goals as goal
 
 pub returns : goal.returns
-returns c = let put = c.answer.ensures in
+returns c =
+    let put = c.answer.ensures in
     let finish = c.finish in
     let read = c.read_all-state in
     let t = read.ensures.0 in

@@ -9,7 +9,8 @@ pub returns-then-not-printable : goal.returns-then-not-printable
 returns-then-not-printable c = (λ e. absurd (true≢false (sym e ∙ sym c.printable.ensures ∙ c.if-not-printable.true)), refl)
 
 pub put_answer-requires : goal.put_answer-requires
-put_answer-requires c = let a = c.args in
+put_answer-requires c =
+    let a = c.args in
     let g = printable_gives (length a.knots.now) (length a.mults.now) (length a.poles.now) (sym c.printable.ensures ∙ c.if-not-printable.false) in
     (g.0, g.1, g.2, c.if-out-lt8192.false)
 

@@ -8,7 +8,8 @@ use Rattle.card_printer.proofs.PutLaws.{put_put}
 use Rattle.card_printer.proofs.put_refusal.Goals as goal
 
 pub returns : goal.returns
-returns c = let last = c.put.ensures.place in
+returns c =
+    let last = c.put.ensures.place in
     let fits : c.put.result ≤ length c.put.new.out = omega arith in (
       put_put _ _ (omega arith)
           c.put-a.ensures

@@ -7,7 +7,8 @@ use Rattle.cholesky.specs.Cholesky.{factor_entry}
 use Rattle.cholesky.proofs.factor_entry.Goals as goal
 
 pub band_entry-pivot-requires : goal.band_entry-pivot-requires
-band_entry-pivot-requires c = let a = c.args in
+band_entry-pivot-requires c =
+    let a = c.args in
     omega (arith, row_inside a.j a.i (a.h + 1) (omega arith))
 
 pub returns : goal.returns

@@ -10,9 +10,11 @@ unfolding factor_left
 loop-j-init c = (omega arith, refl, rw c.row_start-start.ensures)
 
 pub loop-j-preserved : goal.loop-j-preserved
-loop-j-preserved c = let a = c.args in
+loop-j-preserved c =
+    let a = c.args in
     (omega arith, omega arith, rw c.factor_entry.ensures (sym (each_step c.loop-j.j a.i (factor_entry a.h a.i) c.loop-j.lower (omega arith)) ∙ c.loop-j.invariant.2))
 
 pub returns : goal.returns
-returns c = let a = c.args in
+returns c =
+    let a = c.args in
     sym (each_done c.loop-j.j a.i (factor_entry a.h a.i) c.loop-j.lower (omega arith)) ∙ c.loop-j.invariant.2

@@ -9,13 +9,15 @@ use Rattle.cholesky.specs.Cholesky.{factor_row, largest_diagonal, factor_symmetr
 use Rattle.cholesky.proofs.factor_symmetric_band.Goals as goal
 
 pub factor_carried-requires : goal.factor_carried-requires
-factor_carried-requires c = let a = c.args in
+factor_carried-requires c =
+    let a = c.args in
     let e : a.h ≡ 3 = omega arith in
     subst (λ (h : ℕ). a.n * (h + 1) ≤ length a.lower.now) e c.requires.1
 
 pub returns-then-h-eq3 : goal.returns-then-h-eq3
 unfolding factor_symmetric_band
-returns-then-h-eq3 c = let a = c.args in
+returns-then-h-eq3 c =
+    let a = c.args in
     let l = a.lower.now in
     let e : 3 ≡ a.h = omega arith in
     c.factor_carried.ensures

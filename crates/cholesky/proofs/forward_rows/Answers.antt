@@ -9,18 +9,22 @@ use Rattle.bands.proofs.Rows.{regions-apart}
 use Rattle.cholesky.proofs.forward_rows.Goals as goal
 
 pub loop-i-init : goal.loop-i-init
-loop-i-init c = let a = c.args in
+loop-i-init c =
+    let a = c.args in
     going_start a.p0 a.p1 a.l0 a.l1 (forward_row a.h) (length_forward-row a.h) a.work.now (regions-apart c.requires.regions) 0 a.n
 
 pub solve_row-requires : goal.solve_row-requires
-solve_row-requires c = let a = c.args in
+solve_row-requires c =
+    let a = c.args in
     omega (arith, row_inside c.loop-i.i a.n (a.h + 1) (omega arith))
 
 pub loop-i-preserved : goal.loop-i-preserved
 unfolding forward_row forward_point
-loop-i-preserved c = let a = c.args in
+loop-i-preserved c =
+    let a = c.args in
     going-turn a.p0 a.p1 a.l0 a.l1 (forward_row a.h) (length_forward-row a.h) a.work.now (regions-apart c.requires.regions) 0 a.n c.loop-i.work _ c.loop-i.i c.loop-i.invariant (omega arith) (rw c.row_start-start.ensures at c.solve_row.ensures)
 
 pub returns : goal.returns
-returns c = let a = c.args in
+returns c =
+    let a = c.args in
     going_end a.p0 a.p1 a.l0 a.l1 (forward_row a.h) (length_forward-row a.h) a.work.now (regions-apart c.requires.regions) 0 a.n c.loop-i.work c.loop-i.i c.loop-i.invariant (omega arith)

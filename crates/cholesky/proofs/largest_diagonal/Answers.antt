@@ -12,15 +12,18 @@ unfolding largest_diagonal
 loop-i-init c = (omega arith, sym (largest-none _))
 
 pub band_entry-requires : goal.band_entry-requires
-band_entry-requires c = let a = c.args in
+band_entry-requires c =
+    let a = c.args in
     omega (arith, row_inside c.loop-i.i a.n (a.h + 1) (omega arith))
 
 pub loop-i-preserved : goal.loop-i-preserved
 unfolding largest_diagonal
-loop-i-preserved c = let a = c.args in
+loop-i-preserved c =
+    let a = c.args in
     (omega arith, c.max-largest.ensures ∙ rw (c.band_entry.ensures, c.loop-i.invariant.1) (sym (largest-more c.loop-i.i (λ i. lower_entry a.h a.lower.now i i))))
 
 pub returns : goal.returns
-returns c = let a = c.args in
+returns c =
+    let a = c.args in
     let z : c.loop-i.i ≡ a.n = omega arith in
     rw z at c.loop-i.invariant.1

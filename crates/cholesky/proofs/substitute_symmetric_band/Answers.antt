@@ -13,7 +13,8 @@ use Rattle.cholesky.proofs.substitute_symmetric_band.Goals as goal
 
 pub returns : goal.returns
 unfolding substitute_symmetric_band
-returns c = let a = c.args in
+returns c =
+    let a = c.args in
     let w : List Float = a.work.now in
     let f : ℕ → List Float → List Float = forward_row a.h (part a.l0 a.l1 w) in
     splice_then a.l0 a.l1 a.p0 a.p1 (λ x y. down a.n (back_row a.h a.n x) y) (each 0 a.n f (part a.p0 a.p1 w)) w _ _ (omega arith) (omega arith) (omega arith) (omega arith)

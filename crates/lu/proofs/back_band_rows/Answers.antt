@@ -10,23 +10,24 @@ use Rattle.bands.proofs.Rows.{regions-apart}
 use Rattle.lu.proofs.back_band_rows.Goals as goal
 
 pub loop-i-init : goal.loop-i-init
-loop-i-init c = let a = c.args in
+loop-i-init c =
+    let a = c.args in
     (omega arith, down-start a.p0 a.p1 a.l0 a.l1 (back_band_row a.h a.n) (length-back_band-row a.h a.n) a.work.now (regions-apart c.requires.regions) a.n)
 
 pub solve_row-requires : goal.solve_row-requires
-solve_row-requires c = let at = c in
-    let a = at.args in
-    omega (arith, row_inside (at.loop-i.i - 1) a.n (2 * a.h + 1) (omega arith))
+solve_row-requires c =
+    let a = c.args in
+    omega (arith, row_inside (c.loop-i.i - 1) a.n (2 * a.h + 1) (omega arith))
 
 pub loop-i-preserved : goal.loop-i-preserved
 unfolding back_band_row back_band_point
-loop-i-preserved c = let at = c in
-    let a = at.args in
-    let i : at.loop-i.i ≡ (at.loop-i.i - 1) + 1 = omega arith in
-    (omega arith, down_turn a.p0 a.p1 a.l0 a.l1 (back_band_row a.h a.n) (length-back_band-row a.h a.n) a.work.now (regions-apart at.requires.regions) a.n at.loop-i.work _ (at.loop-i.i - 1) (rw i at at.loop-i.invariant.1) (rw c.row_end-end.ensures at c.solve_row.ensures))
+loop-i-preserved c =
+    let a = c.args in
+    let i : c.loop-i.i ≡ (c.loop-i.i - 1) + 1 = omega arith in
+    (omega arith, down_turn a.p0 a.p1 a.l0 a.l1 (back_band_row a.h a.n) (length-back_band-row a.h a.n) a.work.now (regions-apart c.requires.regions) a.n c.loop-i.work _ (c.loop-i.i - 1) (rw i at c.loop-i.invariant.1) (rw c.row_end-end.ensures at c.solve_row.ensures))
 
 pub returns : goal.returns
-returns c = let at = c in
-    let a = at.args in
-    let z : at.loop-i.i ≡ 0 = omega arith in
-    down_end a.p0 a.p1 a.l0 a.l1 (back_band_row a.h a.n) (length-back_band-row a.h a.n) a.work.now (regions-apart at.requires.regions) a.n at.loop-i.work (rw z at at.loop-i.invariant.1)
+returns c =
+    let a = c.args in
+    let z : c.loop-i.i ≡ 0 = omega arith in
+    down_end a.p0 a.p1 a.l0 a.l1 (back_band_row a.h a.n) (length-back_band-row a.h a.n) a.work.now (regions-apart c.requires.regions) a.n c.loop-i.work (rw z at c.loop-i.invariant.1)

@@ -11,16 +11,16 @@ unfolding clear_below
 loop-d-init c = (refl, refl)
 
 pub clear_row-requires : goal.clear_row-requires
-clear_row-requires c = let at = c in
-    let a = at.args in
-    omega (arith, row_inside at.loop-d.d a.count a.w (omega arith))
+clear_row-requires c =
+    let a = c.args in
+    omega (arith, row_inside c.loop-d.d a.count a.w (omega arith))
 
 pub loop-d-preserved : goal.loop-d-preserved
-loop-d-preserved c = let at = c in
-    let a = at.args in
-    (omega arith, rw c.clear_row.ensures (sym (each_step at.loop-d.d a.count _ at.loop-d.rest (omega arith)) ∙ at.loop-d.invariant.1))
+loop-d-preserved c =
+    let a = c.args in
+    (omega arith, rw c.clear_row.ensures (sym (each_step c.loop-d.d a.count _ c.loop-d.rest (omega arith)) ∙ c.loop-d.invariant.1))
 
 pub returns : goal.returns
-returns c = let at = c in
-    let a = at.args in
-    sym (each_done at.loop-d.d a.count _ at.loop-d.rest (omega arith)) ∙ at.loop-d.invariant.1
+returns c =
+    let a = c.args in
+    sym (each_done c.loop-d.d a.count _ c.loop-d.rest (omega arith)) ∙ c.loop-d.invariant.1

@@ -10,16 +10,16 @@ pub loop-k-init : goal.loop-k-init
 loop-k-init c = (refl, refl, refl)
 
 pub eliminate_pivot-requires : goal.eliminate_pivot-requires
-eliminate_pivot-requires c = let at = c in
-    let a = at.args in
-    omega (arith, row_inside at.loop-k.k a.n (2 * a.h + 1) (omega arith))
+eliminate_pivot-requires c =
+    let a = c.args in
+    omega (arith, row_inside c.loop-k.k a.n (2 * a.h + 1) (omega arith))
 
 pub loop-k-preserved : goal.loop-k-preserved
-loop-k-preserved c = let at = c in
-    let a = at.args in
-    (omega arith, omega arith, rw c.eliminate_pivot.ensures.0 (sym (each_step at.loop-k.k a.n _ at.loop-k.band (omega arith)) ∙ at.loop-k.invariant.2))
+loop-k-preserved c =
+    let a = c.args in
+    (omega arith, omega arith, rw c.eliminate_pivot.ensures.0 (sym (each_step c.loop-k.k a.n _ c.loop-k.band (omega arith)) ∙ c.loop-k.invariant.2))
 
 pub returns : goal.returns
-returns c = let at = c in
-    let a = at.args in
-    sym (each_done at.loop-k.k a.n _ at.loop-k.band (omega arith)) ∙ at.loop-k.invariant.2
+returns c =
+    let a = c.args in
+    sym (each_done c.loop-k.k a.n _ c.loop-k.band (omega arith)) ∙ c.loop-k.invariant.2

@@ -8,15 +8,14 @@ use Rattle.lu.proofs.PivotLaws.{eliminate_by_copy}
 use Rattle.lu.proofs.eliminate_pivot.Goals as goal
 
 pub clear_below-requires : goal.clear_below-requires
-clear_below-requires c = let e = c in
-    let a = e.args in
+clear_below-requires c =
+    let a = c.args in
     let w : ℕ = 2 * a.h + 1 in
     let below : ℕ = a.k * w + w in
-    omega (arith, rows-after w a.k (e.row_end.result - a.k - 1) a.n (omega arith), length_part below (length a.band.now) a.band.now (omega arith))
+    omega (arith, rows-after w a.k (c.row_end.result - a.k - 1) a.n (omega arith), length_part below (length a.band.now) a.band.now (omega arith))
 
 pub returns : goal.returns
-returns c = let b = c in
-    let f = b.copy in
-    let e = b in
-    let a = e.args in
-    (rw (c.clear_below.ensures, f.ensures, e.row_end.ensures, b.band_entry-inverse.ensures) (eliminate_by_copy a.h a.n a.k a.band.now _ (omega arith) (omega arith)), rw (f.ensures, e.row_end.ensures))
+returns c =
+    let f = c.copy in
+    let a = c.args in
+    (rw (c.clear_below.ensures, f.ensures, c.row_end.ensures, c.band_entry-inverse.ensures) (eliminate_by_copy a.h a.n a.k a.band.now _ (omega arith) (omega arith)), rw (f.ensures, c.row_end.ensures))

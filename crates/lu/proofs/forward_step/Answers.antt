@@ -18,28 +18,26 @@ keeps : (h k : ℕ) (q : Point) (band : List Float) (i : ℕ) (l : List Float) �
 keeps h k q band i l = length_less-point i (band_entry h band i k) q l
 
 pub loop-i-init : goal.loop-i-init
-loop-i-init c = let s = c in
-    let a = s.args in
+loop-i-init c =
+    let a = c.args in
     let q : Point = c.point_at-q.result in
-    (omega arith, s.row_end-end.ensures, going_start a.p0 a.p1 a.l0 a.l1 (turn a.h a.k q) (keeps a.h a.k q) a.work.now (regions-apart s.requires.0.regions) (a.k + 1) s.row_end-end.result)
+    (omega arith, c.row_end-end.ensures, going_start a.p0 a.p1 a.l0 a.l1 (turn a.h a.k q) (keeps a.h a.k q) a.work.now (regions-apart c.requires.0.regions) (a.k + 1) c.row_end-end.result)
 
 pub band_entry-factor-requires : goal.band_entry-factor-requires
-band_entry-factor-requires c = let at = c in
-    let a = at.args in
-    omega (arith, row_inside at.loop-i.i a.n (2 * a.h + 1) (omega arith))
+band_entry-factor-requires c =
+    let a = c.args in
+    omega (arith, row_inside c.loop-i.i a.n (2 * a.h + 1) (omega arith))
 
 pub loop-i-preserved : goal.loop-i-preserved
-loop-i-preserved c = let at = c in
-    let s = at in
-    let a = s.args in
-    let q : Point = at.point_at-q.result in
-    let j : at.loop-i.i < s.row_end-end.result = c.loop-i-test.true in
-    (omega arith, at.loop-i.invariant.1, going-turn a.p0 a.p1 a.l0 a.l1 (turn a.h a.k q) (keeps a.h a.k q) a.work.now (regions-apart s.requires.0.regions) (a.k + 1) s.row_end-end.result at.loop-i.work _ at.loop-i.i at.loop-i.invariant.2 j (rw (c.less_point.ensures, c.band_entry-factor.ensures)))
+loop-i-preserved c =
+    let a = c.args in
+    let q : Point = c.point_at-q.result in
+    let j : c.loop-i.i < c.row_end-end.result = c.loop-i-test.true in
+    (omega arith, c.loop-i.invariant.1, going-turn a.p0 a.p1 a.l0 a.l1 (turn a.h a.k q) (keeps a.h a.k q) a.work.now (regions-apart c.requires.0.regions) (a.k + 1) c.row_end-end.result c.loop-i.work _ c.loop-i.i c.loop-i.invariant.2 j (rw (c.less_point.ensures, c.band_entry-factor.ensures)))
 
 pub returns : goal.returns
 unfolding forward_step
-returns c = let at = c in
-    let s = at in
-    let a = s.args in
-    let q : Point = at.point_at-q.result in
-    rw (← at.point_at-q.ensures, ← at.loop-i.invariant.1) (going_end a.p0 a.p1 a.l0 a.l1 (turn a.h a.k q) (keeps a.h a.k q) a.work.now (regions-apart s.requires.0.regions) (a.k + 1) s.row_end-end.result at.loop-i.work at.loop-i.i at.loop-i.invariant.2 (omega arith))
+returns c =
+    let a = c.args in
+    let q : Point = c.point_at-q.result in
+    rw (← c.point_at-q.ensures, ← c.loop-i.invariant.1) (going_end a.p0 a.p1 a.l0 a.l1 (turn a.h a.k q) (keeps a.h a.k q) a.work.now (regions-apart c.requires.0.regions) (a.k + 1) c.row_end-end.result c.loop-i.work c.loop-i.i c.loop-i.invariant.2 (omega arith))

@@ -7,15 +7,16 @@ use Rattle.bands.proofs.Rows.{regions-apart}
 use Rattle.lu.proofs.forward_steps.Goals as goal
 
 pub loop-k-init : goal.loop-k-init
-loop-k-init c = let a = c.args in
+loop-k-init c =
+    let a = c.args in
     going_start a.p0 a.p1 a.l0 a.l1 (forward_step a.h a.n) (length_forward_step a.h a.n) a.work.now (regions-apart c.requires.regions) 0 a.n
 
 pub loop-k-preserved : goal.loop-k-preserved
-loop-k-preserved c = let at = c in
-    let a = at.args in
-    going-turn a.p0 a.p1 a.l0 a.l1 (forward_step a.h a.n) (length_forward_step a.h a.n) a.work.now (regions-apart at.requires.regions) 0 a.n at.loop-k.work _ at.loop-k.k at.loop-k.invariant (omega arith) c.forward_step.ensures
+loop-k-preserved c =
+    let a = c.args in
+    going-turn a.p0 a.p1 a.l0 a.l1 (forward_step a.h a.n) (length_forward_step a.h a.n) a.work.now (regions-apart c.requires.regions) 0 a.n c.loop-k.work _ c.loop-k.k c.loop-k.invariant (omega arith) c.forward_step.ensures
 
 pub returns : goal.returns
-returns c = let at = c in
-    let a = at.args in
-    going_end a.p0 a.p1 a.l0 a.l1 (forward_step a.h a.n) (length_forward_step a.h a.n) a.work.now (regions-apart at.requires.regions) 0 a.n at.loop-k.work at.loop-k.k at.loop-k.invariant (omega arith)
+returns c =
+    let a = c.args in
+    going_end a.p0 a.p1 a.l0 a.l1 (forward_step a.h a.n) (length_forward_step a.h a.n) a.work.now (regions-apart c.requires.regions) 0 a.n c.loop-k.work c.loop-k.k c.loop-k.invariant (omega arith)

@@ -18,25 +18,28 @@ pub loop-m-init : goal.loop-m-init
 loop-m-init c = (refl, refl)
 
 pub bounds-rest-i : goal.bounds-rest-i
-bounds-rest-i c = let a = c.args in
+bounds-rest-i c =
+    let a = c.args in
     omega (arith, length-set a.rest.now a.at a.multiplier)
 
 pub bounds-rest-i-in-loop-m : goal.bounds-rest-i-in-loop-m
-bounds-rest-i-in-loop-m c = let a = c.args in
+bounds-rest-i-in-loop-m c =
+    let a = c.args in
     omega (arith, length-set a.rest.now a.at a.multiplier)
 
 pub loop-m-preserved : goal.loop-m-preserved
 unfolding less_place
-loop-m-preserved c = let at = c in
-    let a = at.args in
-    (length-set at.loop-m.rest _ _ ∙ at.loop-m.invariant.0, sym (each_step at.loop-m.m a.count (less_place a.at a.multiplier a.pivot.now) at.loop-m.rest (omega arith)) ∙ at.loop-m.invariant.1)
+loop-m-preserved c =
+    let a = c.args in
+    (length-set c.loop-m.rest _ _ ∙ c.loop-m.invariant.0, sym (each_step c.loop-m.m a.count (less_place a.at a.multiplier a.pivot.now) c.loop-m.rest (omega arith)) ∙ c.loop-m.invariant.1)
 
 pub shape_of-rest : goal.shape_of-rest
-shape_of-rest c = let a = c.args in
+shape_of-rest c =
+    let a = c.args in
     c.loop-m.invariant.0 ∙ length-set a.rest.now a.at a.multiplier
 
 pub returns : goal.returns
 unfolding less_places of_bits
-returns c = let at = c in
-    let a = at.args in
-    rw at.if-multiplier.false (sym (each_done at.loop-m.m a.count (less_place a.at a.multiplier a.pivot.now) at.loop-m.rest (omega arith)) ∙ at.loop-m.invariant.1)
+returns c =
+    let a = c.args in
+    rw c.if-multiplier.false (sym (each_done c.loop-m.m a.count (less_place a.at a.multiplier a.pivot.now) c.loop-m.rest (omega arith)) ∙ c.loop-m.invariant.1)

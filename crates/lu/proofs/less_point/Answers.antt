@@ -10,5 +10,4 @@ returns-then-factor c = rw c.if-factor.true
 
 pub returns : goal.returns
 unfolding less_point of_bits
-returns c = let s = c in
-    rw s.if-factor.false (c.put_point.ensures ∙ rw (s.less_scaled-r.ensures, s.point_at.ensures))
+returns c = rw c.if-factor.false (c.put_point.ensures ∙ rw (c.less_scaled-r.ensures, c.point_at.ensures))

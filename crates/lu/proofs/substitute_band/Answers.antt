@@ -13,24 +13,25 @@ use Rattle.lu.proofs.Lengths.{length_forward_step}
 use Rattle.lu.proofs.substitute_band.Goals as goal
 
 pub forward_narrow-requires : goal.forward_narrow-requires
-forward_narrow-requires c = let s = c in
-    let a = s.args in
+forward_narrow-requires c =
+    let a = c.args in
     let e : a.h ≡ 2 = omega arith in
-    subst (λ (h : ℕ). Solvable a.l0 a.l1 a.p0 a.p1 (2 * h + 1) h a.n a.work.now) e s.requires
+    subst (λ (h : ℕ). Solvable a.l0 a.l1 a.p0 a.p1 (2 * h + 1) h a.n a.work.now) e c.requires
 
 pub back_narrow-requires : goal.back_narrow-requires
-back_narrow-requires c = let s = c in
+back_narrow-requires c =
     let w : List Float = c.forward_narrow.new.work in
-    let a = s.args in
+    let a = c.args in
     let e : a.h ≡ 2 = omega arith in
-    let r = s.requires.regions in
+    let r = c.requires.regions in
     let solvable : Solvable a.l0 a.l1 a.p0 a.p1 (2 * a.h + 1) a.h a.n w =
-    record { regions = record { factors = r.factors; apart = r.apart; points = r.points; fits = omega arith }; width = s.requires.width; rows = s.requires.rows; places = s.requires.places } in
+    record { regions = record { factors = r.factors; apart = r.apart; points = r.points; fits = omega arith }; width = c.requires.width; rows = c.requires.rows; places = c.requires.places } in
     subst (λ (h : ℕ). Solvable a.l0 a.l1 a.p0 a.p1 (2 * h + 1) h a.n w) e solvable
 
 pub returns-then-h-eq2 : goal.returns-then-h-eq2
 unfolding substitute_band
-returns-then-h-eq2 c = let a = c.args in
+returns-then-h-eq2 c =
+    let a = c.args in
     let e : 2 ≡ a.h = omega arith in
     let w : List Float = a.work.now in
     let f : ℕ → List Float → List Float = forward_step 2 a.n (part a.l0 a.l1 w) in
@@ -42,7 +43,8 @@ returns-then-h-eq2 c = let a = c.args in
 
 pub returns : goal.returns
 unfolding substitute_band
-returns c = let a = c.args in
+returns c =
+    let a = c.args in
     let w : List Float = a.work.now in
     let f : ℕ → List Float → List Float = forward_step a.h a.n (part a.l0 a.l1 w) in
     splice_then a.l0 a.l1 a.p0 a.p1 (λ x y. down a.n (back_band_row a.h a.n x) y) (each 0 a.n f (part a.p0 a.p1 w)) w _ _ (omega arith) (omega arith) (omega arith) (omega arith)

@@ -7,6 +7,6 @@ pub returns-in-Unfitted : goal.returns-in-Unfitted
 returns-in-Unfitted c = chosen_unfitted c.requires.0 c.attempt_spread.ensures c.in-Unfitted.is
 
 pub returns-in-Fitting : goal.returns-in-Fitting
-returns-in-Fitting c = let s = c in
-    let a = s.args in
-    chosen_fitting s.requires.0 c.attempt_spread.ensures c.in-Fitting.m c.in-Fitting.is (spread-knots a.job a.count s.requires.1 s.requires.2)
+returns-in-Fitting c =
+    let a = c.args in
+    chosen_fitting c.requires.0 c.attempt_spread.ensures c.in-Fitting.m c.in-Fitting.is (spread-knots a.job a.count c.requires.1 c.requires.2)

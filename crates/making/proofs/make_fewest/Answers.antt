@@ -6,7 +6,8 @@ pub make_spread-requires : goal.make_spread-requires
 make_spread-requires c = has-refined c.requires.0 c.fit_with_refined_knots.ensures
 
 pub make_fewer-requires : goal.make_fewer-requires
-make_fewer-requires c = let p = c.requires in
+make_fewer-requires c =
+    let p = c.requires in
     let f = c.fit_with_refined_knots.ensures in
     (has-refined p.0 f, has_saved-refined p.0 f p.1, f.reaches.few c.in-Met.l c.in-Met.m c.in-Met.is, f.reaches.measures c.in-Met.l c.in-Met.m c.in-Met.is)
 

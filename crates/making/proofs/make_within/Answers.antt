@@ -5,10 +5,10 @@ use Prim.Native.Nat.{◌+◌}
 use Rattle.making.proofs.make_within.Goals as goal
 
 pub make_spread-requires : goal.make_spread-requires
-make_spread-requires c = let s = c in
-    let a = s.args in
+make_spread-requires c =
+    let a = c.args in
     let f = c.fit_with_refined_knots in
-    has_job-kept a.job a.points.now a.work.now f.new.work a.index.now f.new.index (a.job.fresh + a.job.table.count) (a.job.table.firsts + a.job.table.count) s.requires f.ensures.reaches.kept f.ensures.reaches.firsts
+    has_job-kept a.job a.points.now a.work.now f.new.work a.index.now f.new.index (a.job.fresh + a.job.table.count) (a.job.table.firsts + a.job.table.count) c.requires f.ensures.reaches.kept f.ensures.reaches.firsts
 
 pub returns-in-Missed : goal.returns-in-Missed
 returns-in-Missed c = refined_missed c.requires c.fit_with_refined_knots.ensures c.in-Missed.is c.make_spread.ensures

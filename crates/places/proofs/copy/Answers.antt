@@ -15,7 +15,7 @@ pub loop-k-preserved : goal.loop-k-preserved
 loop-k-preserved c = (omega arith, c.loop-k.invariant.1, simp length-set (omega arith), laid0-next _ _ _ _ _ c.loop-k.invariant.3 refl)
 
 pub returns : goal.returns
-returns c = let at = c in
-    let a = at.args in
-    let e : at.loop-k.k ≡ length a.from.now = omega arith in
-    (rw e at at.loop-k.invariant.3) ∙ laid_copy a.from.now a.to.now nan c.requires
+returns c =
+    let a = c.args in
+    let e : c.loop-k.k ≡ length a.from.now = omega arith in
+    (rw e at c.loop-k.invariant.3) ∙ laid_copy a.from.now a.to.now nan c.requires

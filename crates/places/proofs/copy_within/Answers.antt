@@ -33,13 +33,15 @@ unfolding laid
 loop-k-init c = (omega arith, refl, refl)
 
 pub loop-k-preserved : goal.loop-k-preserved
-loop-k-preserved c = let l = c.loop-k in
+loop-k-preserved c =
+    let l = c.loop-k in
     let a = c.args in
     let read = ap (λ (w : List Float). get_or w (a.from + l.k) nan) l.invariant.2 ∙ still a.from a.n a.to l.k a.out.now c.requires.0 (omega arith) in
     (omega arith, simp length-set (omega arith), laid_next _ _ _ _ _ _ l.invariant.2 read)
 
 pub returns : goal.returns
-returns c = let l = c.loop-k in
+returns c =
+    let l = c.loop-k in
     let a = c.args in
     let e : l.k ≡ a.n = omega arith in
     (rw e at l.invariant.2) ∙ whole a.from a.n a.to a.out.now c.requires.1 c.requires.2

@@ -14,4 +14,4 @@ pub loop-k-preserved : goal.loop-k-preserved
 loop-k-preserved c = (omega arith, simp length-set (omega arith), laid_next _ _ _ _ _ _ c.loop-k.invariant.2 refl)
 
 pub returns : goal.returns
-returns c = let at = c in let e : at.loop-k.k ≡ at.args.n = omega arith in rw e at at.loop-k.invariant.2
+returns c = let e : c.loop-k.k ≡ c.args.n = omega arith in rw e at c.loop-k.invariant.2

@@ -8,19 +8,22 @@ use Rattle.refinement.proofs.RoundLaws.{split-same, split_after}
 use Rattle.refinement.proofs.refine_spans.Goals as goal
 
 pub worst_spans-requires : goal.worst_spans-requires
-worst_spans-requires c = let a = c.args in
+worst_spans-requires c =
+    let a = c.args in
     let k : length (part a.d (a.d + a.n) a.work.now) ≡ a.n = length_part a.d (a.d + a.n) a.work.now (omega arith) ∙ omega arith in
     (c.requires.rising.0, rw k c.requires.rising.1)
 
 pub insert_knots-requires : goal.insert_knots-requires
-insert_knots-requires c = let a = c.args in
+insert_knots-requires c =
+    let a = c.args in
     let worst = c.worst_spans in
     let m : length worst.new.squares ≡ a.d + a.n - a.d = worst.auto.squares ∙ length_part a.d (a.d + a.n) a.work.now (omega arith) in
     let k = length-splice a.d (a.d + a.n) worst.new.squares a.work.now (omega arith) (omega arith) m in
     record { rising = c.requires.rising; round_regions = rw k c.requires.round_regions }
 
 pub returns : goal.returns
-returns c = let a = c.args in
+returns c =
+    let a = c.args in
     let w = a.work.now in
     let worst = c.worst_spans in
     let w₁ = splice a.d (a.d + a.n) worst.new.squares w in

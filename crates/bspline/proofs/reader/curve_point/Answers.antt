@@ -9,7 +9,7 @@ use Rattle.bspline.proofs.reader.curve_point.Goals as goal
 pub span_point-requires : goal.span_point-requires
 span_point-requires c =
     let a = c.args in
-    let bounds = span_of_in a.flat.now a.degree c.clamped-x.result c.requires.degree_bound.1 in
+    let bounds = span_of_in a.flat.now a.degree c.clamped-x.result c.requires.fits.1 in
     let e = c.span_of-span.ensures in
     (search rules, omega (arith, bounds, e), omega (arith, bounds, e), omega (arith, bounds, e))
 

@@ -27,7 +27,7 @@ curve_point-requires c =
     let count = ap length p.counted.1 ∙ flat-count _ a.degree a.knots.now a.mults.now p.sized.pairs p.counted.0 in
     let most = enough _ a.degree a.knots.now a.mults.now a.u passes in
     record {
-      degree_bound = (p.sized.high, omega arith, omega arith);
+      fits = (p.sized.high, omega arith, omega arith);
       never_falls = rw p.counted.1 (never_falls _ a.degree a.knots.now a.mults.now a.u p.counted.0 (omega (arith, p.sized.two)) passes);
     }
 

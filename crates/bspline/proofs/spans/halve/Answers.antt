@@ -32,7 +32,7 @@ loop-rest-preserved c =
         omega arith,
         omega arith,
         inv.3 ∙ last_with_cut _ span _ (c.loop-rest.rest - half - 1) half (omega arith)
-            (λ s a b. false-above _ (c.requires.by_index (span + half) s (omega arith) (omega arith)) w.if-flat-span.false) ∙ rw w.span-is,
+            (λ s a b. false-above _ (c.requires.begin_first (span + half) s (omega arith) (omega arith)) w.if-flat-span.false) ∙ rw w.span-is,
       )
     ]
 

@@ -11,7 +11,7 @@ use Rattle.bspline.proofs.spans.span_of.Goals as goal
 pub halve-last-requires : goal.halve-last-requires
 halve-last-requires c =
     let a = c.args in
-    record { le_count = (omega arith, omega arith); by_index = λ s k i j e. begins-down a.flat.now c.requires.never_falls a.u s k i (omega arith) e }
+    record { within = (omega arith, omega arith); begin_first = λ s k i j e. begins-down a.flat.now c.requires.never_falls a.u s k i (omega arith) e }
 
 pub step_back-requires : goal.step_back-requires
 step_back-requires c =

@@ -9,8 +9,8 @@ use Rattle.checks.proofs.grid.check_counts.Goals as goal
 
 pub returns-in-Approximate : goal.returns-in-Approximate
 unfolding counts_verdict
-returns-in-Approximate c = let s = c in
-    let a = s.args in
+returns-in-Approximate c =
+    let a = c.args in
     let h = a.shape in
     c.both.ensures
     ∙ ap (λ (x : Verdict). x next c.check_chosen-in-Approximate.result) c.check_chosen.ensures
@@ -19,8 +19,8 @@ returns-in-Approximate c = let s = c in
 
 pub returns-in-ApproximateWithin : goal.returns-in-ApproximateWithin
 unfolding counts_verdict
-returns-in-ApproximateWithin c = let s = c in
-    let a = s.args in
+returns-in-ApproximateWithin c =
+    let a = c.args in
     let h = a.shape in
     c.both-in-ApproximateWithin.ensures
     ∙ ap (λ (x : Verdict). x next c.check_unchosen-in-ApproximateWithin.result) c.check_unchosen.ensures

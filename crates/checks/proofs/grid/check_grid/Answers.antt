@@ -5,7 +5,8 @@ use Rattle.checks.proofs.GridCheckLaws.{grid-shaped}
 use Rattle.checks.proofs.grid.check_grid.Goals as goal
 
 pub check_lent-requires : goal.check_lent-requires
-check_lent-requires c = let h = grid-shaped _ _ (sym c.check_shape.ensures ∙ c.in-Pass.is) in
+check_lent-requires c =
+    let h = grid-shaped _ _ (sym c.check_shape.ensures ∙ c.in-Pass.is) in
     (h.rows_most, h.cols_most, h.u_high, h.v_high)
 
 pub returns-in-Stop : goal.returns-in-Stop

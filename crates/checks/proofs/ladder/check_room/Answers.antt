@@ -23,13 +23,13 @@ unfolding room_verdict stop_if ◌next◌
 returns-then-room-knots-3 c = rw (le-ltb _ _ c.if-room-n.false, le-ltb _ _ c.if-room-knots.false, le-ltb _ _ c.if-room-knots-2.false, lt-ltb _ _ c.if-room-knots-3.true)
 
 pub overflow_mul-degree-2 : goal.overflow_mul-degree-2
-overflow_mul-degree-2 c = let a = c in omega (arith, small a.args.degree a.args.n a.requires.1 a.requires.0)
+overflow_mul-degree-2 c = omega (arith, small c.args.degree c.args.n c.requires.1 c.requires.0)
 
 pub overflow_add-degree : goal.overflow_add-degree
-overflow_add-degree c = let a = c in omega (arith, small a.args.degree a.args.n a.requires.1 a.requires.0)
+overflow_add-degree c = omega (arith, small c.args.degree c.args.n c.requires.1 c.requires.0)
 
 pub overflow_add-degree-2 : goal.overflow_add-degree-2
-overflow_add-degree-2 c = let a = c in omega (arith, small a.args.degree a.args.n a.requires.1 a.requires.0)
+overflow_add-degree-2 c = omega (arith, small c.args.degree c.args.n c.requires.1 c.requires.0)
 
 pub returns-then-room-degree : goal.returns-then-room-degree
 unfolding room_verdict stop_if ◌next◌

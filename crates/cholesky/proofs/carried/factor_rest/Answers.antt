@@ -14,18 +14,21 @@ left_ahead-row-requires c = (omega arith, omega arith, c.loop-i.invariant.2)
 
 pub returns-then-is_undetermined : goal.returns-then-is_undetermined
 unfolding factor_row factor_diagonal
-returns-then-is_undetermined c = let left = c.left_ahead-row in
+returns-then-is_undetermined c =
+    let left = c.left_ahead-row in
     let a = c.args in
     sym (while_off c.loop-i.i a.n _ c.loop-i.lower (omega arith) left.new.lower
     (rw (← left.ensures.0, ← left.ensures.1.rest, ← c.is_undetermined.ensures, c.if-is_undetermined.true))) ∙ c.loop-i.invariant.3
 
 pub put_diagonal-above-requires : goal.put_diagonal-above-requires
-put_diagonal-above-requires c = let left = c.left_ahead-row in
+put_diagonal-above-requires c =
+    let left = c.left_ahead-row in
     (omega arith, omega arith, left.ensures.1, left.ensures.2)
 
 pub loop-i-preserved : goal.loop-i-preserved
 unfolding factor_row factor_diagonal
-loop-i-preserved c = let put = c.put_diagonal-above in
+loop-i-preserved c =
+    let put = c.put_diagonal-above in
     let left = c.left_ahead-row in
     let a = c.args in (
       omega arith,
@@ -36,5 +39,6 @@ loop-i-preserved c = let put = c.put_diagonal-above in
     )
 
 pub returns : goal.returns
-returns c = let a = c.args in
+returns c =
+    let a = c.args in
     sym (while_done c.loop-i.i a.n _ c.loop-i.lower (omega arith)) ∙ c.loop-i.invariant.3

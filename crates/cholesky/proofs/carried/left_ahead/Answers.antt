@@ -15,7 +15,8 @@ pub shape_of-lower : goal.shape_of-lower
 shape_of-lower c = simp length-set
 
 pub returns : goal.returns
-returns c = let i = c.args.i in
+returns c =
+    let i = c.args.i in
     let t = c.args.above in
     let l = c.args.lower.now in
     let h = c.requires.2 in (

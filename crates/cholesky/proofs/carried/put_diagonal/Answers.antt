@@ -14,7 +14,8 @@ pub shape_of-lower : goal.shape_of-lower
 shape_of-lower c = simp length-set
 
 pub returns : goal.returns
-returns c = let i = c.args.i in
+returns c =
+    let i = c.args.i in
     let l = c.args.lower.now in
     let root : Float = c.sqrt-root.result in
     let out : List Float = set l (4 * i + 3) root in

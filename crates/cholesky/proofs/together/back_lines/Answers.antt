@@ -34,7 +34,8 @@ pub back_row-requires : goal.back_row-requires
 back_row-requires c = omega (arith, row_inside c.loop-r.r c.args.lines c.args.n (omega arith))
 
 pub loop-r-preserved : goal.loop-r-preserved
-loop-r-preserved c = let a = c.args in
+loop-r-preserved c =
+    let a = c.args in
     let l = c.loop-r in
     let stays = factor_stays a.l0 a.l1 a.p0 a.work.now l.work c.requires.0.factors c.requires.0.apart l.invariant.front in
     done_next a.p0 a.n a.lines (λ (r : ℕ). back_row a.h a.n (part a.l0 a.l1 a.work.now) a.i) a.work.now

@@ -18,7 +18,8 @@ pub back_lines-requires : goal.back_lines-requires
 back_lines-requires c = (solvable-kept c.requires c.loop-i.invariant.1.long, omega arith)
 
 pub loop-i-preserved : goal.loop-i-preserved
-loop-i-preserved c = let a = c.args in
+loop-i-preserved c =
+    let a = c.args in
     let l = c.loop-i in
     let g : ℕ → List Float → List Float = back_row a.h a.n (part a.l0 a.l1 a.work.now) in
     let i : (l.i - 1) + 1 ≡ l.i = omega arith in
@@ -33,7 +34,8 @@ pub shape_of-work : goal.shape_of-work
 shape_of-work c = c.loop-i.invariant.1.long
 
 pub returns : goal.returns
-returns c = let a = c.args in
+returns c =
+    let a = c.args in
     let l = c.loop-i in
     let g : ℕ → List Float → List Float = back_row a.h a.n (part a.l0 a.l1 a.work.now) in
     let z : l.i ≡ 0 = omega arith in

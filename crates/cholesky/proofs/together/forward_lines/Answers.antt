@@ -31,12 +31,14 @@ pub overflow_add-p-in-loop-r : goal.overflow_add-p-in-loop-r
 overflow_add-p-in-loop-r c = omega (arith, row_inside c.loop-r.r c.args.lines c.args.n (omega arith))
 
 pub solve_row-requires : goal.solve_row-requires
-solve_row-requires c = let a = c.args in
+solve_row-requires c =
+    let a = c.args in
     omega (arith, row_inside c.loop-r.r c.args.lines c.args.n (omega arith), row_inside a.i a.n (a.h + 1) (omega arith))
 
 pub loop-r-preserved : goal.loop-r-preserved
 unfolding forward_row forward_point
-loop-r-preserved c = let a = c.args in
+loop-r-preserved c =
+    let a = c.args in
     let l = c.loop-r in
     let stays = factor_stays a.l0 a.l1 a.p0 a.work.now l.work c.requires.0.factors c.requires.0.apart l.invariant.front in
     let put = rw c.row_start-start.ensures at c.solve_row.ensures in

@@ -18,7 +18,8 @@ pub forward_lines-requires : goal.forward_lines-requires
 forward_lines-requires c = (solvable-kept c.requires c.loop-i.invariant.long, omega arith)
 
 pub loop-i-preserved : goal.loop-i-preserved
-loop-i-preserved c = let a = c.args in
+loop-i-preserved c =
+    let a = c.args in
     let l = c.loop-i in
     let g : ℕ → List Float → List Float = forward_row a.h (part a.l0 a.l1 a.work.now) in
     let stays = factor_stays a.l0 a.l1 a.p0 a.work.now l.work c.requires.factors c.requires.apart l.invariant.front in
@@ -30,7 +31,8 @@ pub shape_of-work : goal.shape_of-work
 shape_of-work c = c.loop-i.invariant.long
 
 pub returns : goal.returns
-returns c = let a = c.args in
+returns c =
+    let a = c.args in
     let l = c.loop-i in
     let g : ℕ → List Float → List Float = forward_row a.h (part a.l0 a.l1 a.work.now) in
     toward_end a.p0 a.n a.lines (λ (r : ℕ). each 0 a.n g) a.work.now (λ (r : ℕ). each l.i a.n g) l.work l.invariant

@@ -15,7 +15,8 @@ shape_of-work c = c.back_together.ensures.long ∙ c.forward_together.ensures.lo
 
 pub returns : goal.returns
 unfolding substitute_symmetric_band
-returns c = let a = c.args in
+returns c =
+    let a = c.args in
     let first = c.forward_together.ensures in
     let stays = factor_stays a.l0 a.l1 a.p0 a.work.now _ c.requires.factors c.requires.apart first.front in
     each_then first (rw stays at c.back_together.ensures)

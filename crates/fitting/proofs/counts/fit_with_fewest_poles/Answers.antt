@@ -12,7 +12,8 @@ pub next-requires : goal.next-requires
 next-requires c = running_bounded _ _ _ _ (omega (arith, c.requires.2, c.requires.0.few)) c.loop-m.invariant.running
 
 pub passes-requires : goal.passes-requires
-passes-requires c = let p = c.requires in
+passes-requires c =
+    let p = c.requires in
     let a = c.args in
     let l = c.loop-m in
     let n = running-count _ _ _ _ _ (sym c.next.ensures ∙ c.in-Try.is) l.invariant.running in
@@ -22,7 +23,8 @@ pub loop-m-smaller-then-passes : goal.loop-m-smaller-then-passes
 loop-m-smaller-then-passes c = rw c.fitted-s.ensures (fitted_narrower _ _ c.loop-m.invariant.running.holds.steps (sym c.next.ensures ∙ c.in-Try.is))
 
 pub loop-m-preserved-then-passes : goal.loop-m-preserved-then-passes
-loop-m-preserved-then-passes c = let p = c.requires in
+loop-m-preserved-then-passes c =
+    let p = c.requires in
     let a = c.args in
     let l = c.loop-m in
     let x = c.passes in
@@ -35,14 +37,16 @@ pub loop-m-smaller : goal.loop-m-smaller
 loop-m-smaller c = rw c.failed-s.ensures (failed_narrower _ _ c.loop-m.invariant.running.holds.steps (sym c.next.ensures ∙ c.in-Try.is))
 
 pub loop-m-preserved : goal.loop-m-preserved
-loop-m-preserved c = let p = c.requires in
+loop-m-preserved c =
+    let p = c.requires in
     let a = c.args in
     let l = c.loop-m in
     let x = c.passes in
     rw c.failed-s.ensures (searching_failed a.job a.points.now a.tolerance a.last a.work.now a.index.now p.0 l.s l.work l.index l.invariant _ (sym c.next.ensures ∙ c.in-Try.is) x.new.work x.new.index x.result x.ensures c.if-passes.false)
 
 pub returns : goal.returns
-returns c = let p = c.requires in
+returns c =
+    let p = c.requires in
     let a = c.args in
     let l = c.loop-m in
     searching_done a.job a.points.now a.tolerance a.last a.work.now a.index.now p.0 l.s l.work l.index l.invariant (sym c.next.ensures ∙ c.in-Done.is) c.found.result c.found.ensures

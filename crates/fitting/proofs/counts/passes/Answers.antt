@@ -5,7 +5,8 @@ use Rattle.fitting.proofs.CountLaws.{tested_unfitted, tested-ladder, tested-unre
 use Rattle.fitting.proofs.counts.passes.Goals as goal
 
 pub returns-in-Unfitted : goal.returns-in-Unfitted
-returns-in-Unfitted c = let a = c.args in
+returns-in-Unfitted c =
+    let a = c.args in
     let t = c.attempt_spread in
     tested_unfitted a.job a.points.now a.tolerance a.m a.work.now t.new.work a.index.now t.new.index t.result t.ensures c.in-Unfitted.is
 
@@ -22,6 +23,7 @@ returns-else-x-eq0 c =
     tested-unread a.job a.points.now a.tolerance a.m a.work.now t.new.work a.index.now t.new.index t.result t.ensures c.requires.0 c.if-job-eq-LADDER.true c.in-Fitting.x c.in-Fitting.is c.if-x-eq0.false _ refl
 
 pub returns-else-job-eq-LADDER : goal.returns-else-job-eq-LADDER
-returns-else-job-eq-LADDER c = let a = c.args in
+returns-else-job-eq-LADDER c =
+    let a = c.args in
     let t = c.attempt_spread in
     tested_grid a.job a.points.now a.tolerance a.m a.work.now t.new.work a.index.now t.new.index t.result t.ensures c.if-job-eq-LADDER.false c.in-Fitting.x c.in-Fitting.is _ refl

@@ -9,21 +9,18 @@ pub loop-i-init : goal.loop-i-init
 loop-i-init c = (refl, (omega arith, refl))
 
 pub returns-then-rank-mine : goal.returns-then-rank-mine
-returns-then-rank-mine c = let at = c in
-    let a = at in
-    let low : rank_of (get_or at.loop-i.list (at.loop-i.i - 1) nan) ≤ rank_of (get_or a.args.list.now a.args.k nan) =
-    rw (c.rank.ensures, at.rank-mine.ensures) at c.if-rank-mine.true in
-    sym (sink_stop at.loop-i.i (at.loop-i.i - 1) _ at.loop-i.list (omega arith) low) ∙ at.loop-i.invariant.1.1 ∙ sink_all a.args.list.now a.args.k (omega arith) a.requires.1
+returns-then-rank-mine c =
+    let low : rank_of (get_or c.loop-i.list (c.loop-i.i - 1) nan) ≤ rank_of (get_or c.args.list.now c.args.k nan) =
+    rw (c.rank.ensures, c.rank-mine.ensures) at c.if-rank-mine.true in
+    sym (sink_stop c.loop-i.i (c.loop-i.i - 1) _ c.loop-i.list (omega arith) low) ∙ c.loop-i.invariant.1.1 ∙ sink_all c.args.list.now c.args.k (omega arith) c.requires.1
 
 pub loop-i-preserved : goal.loop-i-preserved
-loop-i-preserved c = let at = c in
-    let a = at in
-    let high : rank_of (get_or a.args.list.now a.args.k nan) < rank_of (get_or at.loop-i.list (at.loop-i.i - 1) nan) =
-    rw (c.rank.ensures, at.rank-mine.ensures) at c.if-rank-mine.false in
-    (simp length-set at.loop-i.invariant.0, (omega arith, sym (sink_on at.loop-i.i (at.loop-i.i - 1) _ at.loop-i.list (omega arith) high) ∙ at.loop-i.invariant.1.1))
+loop-i-preserved c =
+    let high : rank_of (get_or c.args.list.now c.args.k nan) < rank_of (get_or c.loop-i.list (c.loop-i.i - 1) nan) =
+    rw (c.rank.ensures, c.rank-mine.ensures) at c.if-rank-mine.false in
+    (simp length-set c.loop-i.invariant.0, (omega arith, sym (sink_on c.loop-i.i (c.loop-i.i - 1) _ c.loop-i.list (omega arith) high) ∙ c.loop-i.invariant.1.1))
 
 pub returns : goal.returns
-returns c = let at = c in
-    let a = at in
-    let z : at.loop-i.i ≡ 0 = omega arith in
-    sym (sink-none at.loop-i.i _ at.loop-i.list z) ∙ at.loop-i.invariant.1.1 ∙ sink_all a.args.list.now a.args.k (omega arith) a.requires.1
+returns c =
+    let z : c.loop-i.i ≡ 0 = omega arith in
+    sym (sink-none c.loop-i.i _ c.loop-i.list z) ∙ c.loop-i.invariant.1.1 ∙ sink_all c.args.list.now c.args.k (omega arith) c.requires.1

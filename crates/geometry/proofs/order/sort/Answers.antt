@@ -9,17 +9,17 @@ unfolding sorted
 loop-k-init c = (refl, (omega arith, (tt, refl)))
 
 pub loop-k-preserved : goal.loop-k-preserved
-loop-k-preserved c = let at = c in
-    let turn = sort-turn at.loop-k.list c.sink.new.list at.loop-k.k (omega arith) c.sink.ensures in (
+loop-k-preserved c =
+    let turn = sort-turn c.loop-k.list c.sink.new.list c.loop-k.k (omega arith) c.sink.ensures in (
       omega arith,
       (
         omega arith,
         (
-          rw turn.0 (ascending-inserted _ _ at.loop-k.invariant.1.1.0),
-          rw (turn.0, turn.1) (sym (onto-next _ at.loop-k.list at.loop-k.k (omega arith)) ∙ at.loop-k.invariant.1.1.1),
+          rw turn.0 (ascending-inserted _ _ c.loop-k.invariant.1.1.0),
+          rw (turn.0, turn.1) (sym (onto-next _ c.loop-k.list c.loop-k.k (omega arith)) ∙ c.loop-k.invariant.1.1.1),
         ),
       ),
     )
 
 pub returns : goal.returns
-returns c = let at = c in sym (onto_done [] at.loop-k.list at.loop-k.k (omega arith)) ∙ at.loop-k.invariant.1.1.1
+returns c = sym (onto_done [] c.loop-k.list c.loop-k.k (omega arith)) ∙ c.loop-k.invariant.1.1.1

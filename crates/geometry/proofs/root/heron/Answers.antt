@@ -7,7 +7,8 @@ pub overflow_add-result : goal.overflow_add-result
 overflow_add-result c = omega (arith, quotient-lt c.args.m c.args.g c.requires.1 c.requires.2)
 
 pub returns : goal.returns
-returns c = let m = c.args.m in
+returns c =
+    let m = c.args.m in
     let g = c.args.g in
     let above = mean-above m g (lt_of_lt_of_le (lit< tt) c.requires.2) in
     let q = quotient-lt m g c.requires.1 c.requires.2 in

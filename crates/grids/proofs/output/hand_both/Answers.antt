@@ -4,7 +4,8 @@ use Rattle.grids.proofs.JobLaws.{handed_counted}
 use Rattle.grids.proofs.output.hand_both.Goals as goal
 
 pub returns : goal.returns
-returns c = let a = c.args in
+returns c =
+    let a = c.args in
     let u = c.hand_knots-u in
     let v = c.hand_knots-v in
     record {

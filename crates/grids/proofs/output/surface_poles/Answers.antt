@@ -14,31 +14,37 @@ use borrow.Author.Rules.{rules}
 use Rattle.grids.proofs.output.surface_poles.Goals as goal
 
 pub loop-k-init : goal.loop-k-init
-loop-k-init c = let a = c.args in
+loop-k-init c =
+    let a = c.args in
     (omega arith, refl, rows_start (3 * a.columns) (surface_row a.columns a.count (part a.a (a.a + 3 * (a.columns * a.count)) a.work.now)) a.poles.now)
 
 pub overflow_mul-from : goal.overflow_mul-from
-overflow_mul-from c = let i = row_within c.loop-k.k c.args.columns c.args.count (omega arith) in
+overflow_mul-from c =
+    let i = row_within c.loop-k.k c.args.columns c.args.count (omega arith) in
     let f = points-few c.args.columns c.args.count c.requires.0 c.requires.1 in
     omega (arith, i, f)
 
 pub overflow_add-to : goal.overflow_add-to
-overflow_add-to c = let i = row_within c.loop-k.k c.args.columns c.args.count (omega arith) in
+overflow_add-to c =
+    let i = row_within c.loop-k.k c.args.columns c.args.count (omega arith) in
     let f = points-few c.args.columns c.args.count c.requires.0 c.requires.1 in
     omega (arith, i, f)
 
 pub offset_bounds-poles-from : goal.offset_bounds-poles-from
-offset_bounds-poles-from c = let i = row_within c.loop-k.k c.args.columns c.args.count (omega arith) in
+offset_bounds-poles-from c =
+    let i = row_within c.loop-k.k c.args.columns c.args.count (omega arith) in
     let f = points-few c.args.columns c.args.count c.requires.0 c.requires.1 in
     omega (arith, i, f)
 
 pub slice_bounds-surface_row-start : goal.slice_bounds-surface_row-start
-slice_bounds-surface_row-start c = let i = row_within c.loop-k.k c.args.columns c.args.count (omega arith) in
+slice_bounds-surface_row-start c =
+    let i = row_within c.loop-k.k c.args.columns c.args.count (omega arith) in
     let f = points-few c.args.columns c.args.count c.requires.0 c.requires.1 in
     omega (arith, i, c.requires.3)
 
 pub slice_bounds-surface_row-end : goal.slice_bounds-surface_row-end
-slice_bounds-surface_row-end c = let i = row_within c.loop-k.k c.args.columns c.args.count (omega arith) in
+slice_bounds-surface_row-end c =
+    let i = row_within c.loop-k.k c.args.columns c.args.count (omega arith) in
     let f = points-few c.args.columns c.args.count c.requires.0 c.requires.1 in
     omega (arith, i, c.requires.3)
 

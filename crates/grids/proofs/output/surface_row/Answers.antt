@@ -35,15 +35,18 @@ unfolding points_of joined
 loop-l-init c = (omega arith, refl, refl)
 
 pub overflow_mul-l : goal.overflow_mul-l
-overflow_mul-l c = let i = inside c.loop-l.l c.args.k c.args.columns c.args.count (omega arith) c.requires.2 in
+overflow_mul-l c =
+    let i = inside c.loop-l.l c.args.k c.args.columns c.args.count (omega arith) c.requires.2 in
     omega (arith, i, points-few c.args.columns c.args.count c.requires.0 c.requires.1)
 
 pub overflow_add-l : goal.overflow_add-l
-overflow_add-l c = let i = inside c.loop-l.l c.args.k c.args.columns c.args.count (omega arith) c.requires.2 in
+overflow_add-l c =
+    let i = inside c.loop-l.l c.args.k c.args.columns c.args.count (omega arith) c.requires.2 in
     omega (arith, i, points-few c.args.columns c.args.count c.requires.0 c.requires.1)
 
 pub point_at-q-requires : goal.point_at-q-requires
-point_at-q-requires c = let i = inside c.loop-l.l c.args.k c.args.columns c.args.count (omega arith) c.requires.2 in
+point_at-q-requires c =
+    let i = inside c.loop-l.l c.args.k c.args.columns c.args.count (omega arith) c.requires.2 in
     let n = length_part c.args.a (c.args.a + 3 * (c.args.columns * c.args.count)) c.args.work.now c.requires.3 in
     omega (arith, i, n)
 

@@ -17,10 +17,10 @@ use Rattle.lu.proofs.NarrowLaws.{back_solved}
 use Rattle.lu.proofs.narrow.back_ahead.Goals as goal
 
 pub returns : goal.returns
-returns c = let put = c.put_point in
+returns c =
+    let put = c.put_point in
     let back = c.back_known-x in
-    let s = c in
-    let a = s.args in
+    let a = c.args in
     let w : List Float = a.work.now in
     let band : List Float = part a.l0 a.l1 w in
     let poles : List Float = part a.p0 a.p1 w in
@@ -32,6 +32,6 @@ returns c = let put = c.put_point in
       subst (λ (l : List Float). Known a.i (record { first = x; second = a.known.first }) l) (sym (part-splice a.p0 a.p1 put.new.points w (omega arith) (omega arith) long))
           (record {
             first = sym (ap (λ (l : List Float). point_at l a.i) put.ensures ∙ point_put a.i x poles (omega (arith, room)));
-            second = s.requires.2.first ∙ sym (ap (λ (l : List Float). point_at l (a.i + 1)) put.ensures ∙ point_stays a.i (a.i + 1) x poles (inr (omega arith)));
+            second = c.requires.2.first ∙ sym (ap (λ (l : List Float). point_at l (a.i + 1)) put.ensures ∙ point_stays a.i (a.i + 1) x poles (inr (omega arith)));
           }),
     )

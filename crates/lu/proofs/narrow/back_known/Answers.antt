@@ -7,14 +7,14 @@ use Rattle.lu.proofs.NarrowLaws.{solved-two}
 use Rattle.lu.proofs.narrow.back_known.Goals as goal
 
 pub returns : goal.returns
-returns c = let d = c.band_entry in
+returns c =
+    let d = c.band_entry in
     let y = c.less_scaled-y in
     let x = c.less_scaled-x in
     let q = c.point_at in
     let far = c.band_entry-far in
     let near = c.band_entry-near in
-    let s = c in
-    let a = s.args in
+    let a = c.args in
     let e : a.i + 1 + 1 ≡ a.i + 2 = omega arith in
-    let second = s.requires.2.second ∙ ap (point_at a.poles.now) e in
-    c.scaled.ensures ∙ rw (y.ensures, x.ensures, q.ensures, near.ensures, far.ensures, d.ensures, s.requires.2.first, second) (sym (solved-two a.factors.now a.poles.now a.i))
+    let second = c.requires.2.second ∙ ap (point_at a.poles.now) e in
+    c.scaled.ensures ∙ rw (y.ensures, x.ensures, q.ensures, near.ensures, far.ensures, d.ensures, c.requires.2.first, second) (sym (solved-two a.factors.now a.poles.now a.i))

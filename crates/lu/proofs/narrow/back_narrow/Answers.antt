@@ -15,11 +15,11 @@ use Rattle.lu.proofs.NarrowLaws.{back_solved}
 use Rattle.lu.proofs.narrow.back_narrow.Goals as goal
 
 pub returns : goal.returns
-returns c = let rest = c.back_rest in
+returns c =
+    let rest = c.back_rest in
     let two = c.solve_row-2 in
     let one = c.solve_row in
-    let s = c in
-    let a = s.args in
+    let a = c.args in
     let w : List Float = a.work.now in
     let mid : List Float = one.new.work in
     let out : List Float = two.new.work in
@@ -27,7 +27,7 @@ returns c = let rest = c.back_rest in
     let g : List Float → ℕ → List Float → List Float = back_band_row 2 a.n in
     let p : List Float → List Float = part a.p0 a.p1 in
     let b : List Float → List Float = part a.l0 a.l1 in
-    let d : Apart a.p0 a.p1 a.l0 a.l1 w = regions-apart s.requires.regions in
+    let d : Apart a.p0 a.p1 a.l0 a.l1 w = regions-apart c.requires.regions in
     let low : 2 ≤ a.n = c.if-n-lt2.false in
     let n : a.n ≡ most + 1 + 1 = omega (arith, low) in
     let turn = down_turn a.p0 a.p1 a.l0 a.l1 g (length-back_band-row 2 a.n) w d a.n in

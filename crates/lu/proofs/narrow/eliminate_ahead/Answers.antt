@@ -10,26 +10,25 @@ use Rattle.lu.proofs.NarrowLaws.{pairs-eliminate, pairs_carry}
 use Rattle.lu.proofs.narrow.eliminate_ahead.Goals as goal
 
 pub less_pair-first-requires : goal.less_pair-first-requires
-less_pair-first-requires c = let s = c in
-    let l = s.args.band.now in
-    let below : ℕ = 5 * s.args.k + 5 in (
+less_pair-first-requires c =
+    let l = c.args.band.now in
+    let below : ℕ = 5 * c.args.k + 5 in (
       omega (arith, length_part below (length l) l (omega arith)),
-      s.requires.2.middle ∙ ap (at l) (omega arith) ∙ sym (get_d_part below (length l) l 2 nan (omega arith)),
-      s.requires.2.last ∙ ap (at l) (omega arith) ∙ sym (get_d_part below (length l) l 3 nan (omega arith)),
+      c.requires.2.middle ∙ ap (at l) (omega arith) ∙ sym (get_d_part below (length l) l 2 nan (omega arith)),
+      c.requires.2.last ∙ ap (at l) (omega arith) ∙ sym (get_d_part below (length l) l 3 nan (omega arith)),
     )
 
 pub less_pair-second-requires : goal.less_pair-second-requires
 less_pair-second-requires c = (omega arith, refl, refl)
 
 pub returns : goal.returns
-returns c = let two = c.less_pair-second in
-    let p = c in
-    let one = p.less_pair-first in
-    let s = p in
-    let a = s.args in
+returns c =
+    let two = c.less_pair-second in
+    let one = c.less_pair-first in
+    let a = c.args in
     let l = a.band.now in
     let mid = one.new.band in
     let out = two.new.band in (
-      pairs-eliminate a.n a.k a.row l mid out (omega arith) (omega arith) s.requires.2 one.ensures.0 two.ensures.0,
-      pairs_carry a.n a.k a.row l mid out (omega arith) (omega arith) s.requires.2 one.ensures.0 two.ensures.0 _ one.ensures.1 one.ensures.2 refl two.ensures.1 two.ensures.2 refl,
+      pairs-eliminate a.n a.k a.row l mid out (omega arith) (omega arith) c.requires.2 one.ensures.0 two.ensures.0,
+      pairs_carry a.n a.k a.row l mid out (omega arith) (omega arith) c.requires.2 one.ensures.0 two.ensures.0 _ one.ensures.1 one.ensures.2 refl two.ensures.1 two.ensures.2 refl,
     )

@@ -18,13 +18,13 @@ pub eliminate_ahead-row-requires : goal.eliminate_ahead-row-requires
 eliminate_ahead-row-requires c = (omega arith, omega arith, c.loop-k.invariant.2)
 
 pub loop-k-preserved : goal.loop-k-preserved
-loop-k-preserved c = let at = c in
-    let a = at.args in
+loop-k-preserved c =
+    let a = c.args in
     let turn = c.eliminate_ahead-row in
-    (omega arith, omega arith, turn.ensures.1, rw turn.ensures.0 (sym (each_step at.loop-k.k a.n _ at.loop-k.band (omega arith)) ∙ at.loop-k.invariant.3))
+    (omega arith, omega arith, turn.ensures.1, rw turn.ensures.0 (sym (each_step c.loop-k.k a.n _ c.loop-k.band (omega arith)) ∙ c.loop-k.invariant.3))
 
 pub returns : goal.returns
-returns c = let at = c in
-    let a = at.args in
-    let e : a.n - 2 ≡ at.loop-k.k = omega arith in
-    c.eliminate_from-2.ensures ∙ rw e at.loop-k.invariant.3
+returns c =
+    let a = c.args in
+    let e : a.n - 2 ≡ c.loop-k.k = omega arith in
+    c.eliminate_from-2.ensures ∙ rw e c.loop-k.invariant.3

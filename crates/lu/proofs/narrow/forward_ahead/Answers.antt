@@ -14,15 +14,15 @@ use Rattle.lu.proofs.NarrowLaws.{forward-two}
 use Rattle.lu.proofs.narrow.forward_ahead.Goals as goal
 
 pub returns : goal.returns
-returns c = let two = c.less_two in
+returns c =
+    let two = c.less_two in
     let far = c.band_entry-far in
     let near = c.band_entry-near in
-    let s = c in
-    let a = s.args in
+    let a = c.args in
     let w : List Float = a.work.now in
     let band : List Float = part a.l0 a.l1 w in
     let poles : List Float = part a.p0 a.p1 w in
-    let is : two.new.poles ≡ forward_step 2 a.n band a.k poles = two.ensures.0 ∙ rw (near.ensures, far.ensures, s.requires.2.first) (sym (forward-two a.n a.k band poles (omega arith))) in
+    let is : two.new.poles ≡ forward_step 2 a.n band a.k poles = two.ensures.0 ∙ rw (near.ensures, far.ensures, c.requires.2.first) (sym (forward-two a.n a.k band poles (omega arith))) in
     let long : length two.new.poles ≡ a.p1 - a.p0 = ap length is ∙ length_forward_step 2 a.n band a.k poles ∙ length_part a.p0 a.p1 w (omega arith) in (
       ap (λ (l : List Float). splice a.p0 a.p1 l w) is,
       subst (λ (l : List Float). Known (a.k + 1) two.result l) (sym (part-splice a.p0 a.p1 two.new.poles w (omega arith) (omega arith) long)) two.ensures.1,

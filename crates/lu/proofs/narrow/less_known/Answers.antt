@@ -14,10 +14,10 @@ returns-then-factor c = (rw c.if-factor.true, c.requires.1)
 
 pub returns : goal.returns
 unfolding less_point of_bits
-returns c = let put = c.put_point.ensures in
+returns c =
+    let put = c.put_point.ensures in
     let less = c.less_scaled-r in
-    let s = c in
-    let a = s.args in (
-      rw c.if-factor.false (put ∙ rw (less.ensures, s.requires.1)),
+    let a = c.args in (
+      rw c.if-factor.false (put ∙ rw (less.ensures, c.requires.1)),
       sym (ap (λ (l : List Float). point_at l a.i) put ∙ point_put a.i less.result a.poles.now (omega arith)),
     )

@@ -15,7 +15,8 @@ shape_of-band-then-multiplier c = simp length-set
 
 pub returns-then-multiplier : goal.returns-then-multiplier
 unfolding less_pair of_bits
-returns-then-multiplier c = let a = c.args in
+returns-then-multiplier c =
+    let a = c.args in
     let l = a.band.now in
     let kept : (x : ℕ) → (x ≡ a.from → ⊥) → _ = λ x h. sym (get_or-set_other l a.from x a.multiplier nan h) in
     (rw c.if-multiplier.true, c.requires.1 ∙ kept (a.from + 1) (λ e. omega arith), c.requires.2 ∙ kept (a.from + 2) (λ e. omega arith))
@@ -31,7 +32,8 @@ shape_of-band c = simp length-set
 
 pub returns : goal.returns
 unfolding less_pair of_bits
-returns c = let a = c.args in
+returns c =
+    let a = c.args in
     let put : List Float = set a.band.now a.from a.multiplier in
     let u : Float = a.x ⊖ a.multiplier ⊗ a.near in
     let v : Float = a.y ⊖ a.multiplier ⊗ a.far in

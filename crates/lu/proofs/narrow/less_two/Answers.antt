@@ -10,7 +10,8 @@ use Rattle.lu.proofs.NarrowLaws.{less_stays}
 use Rattle.lu.proofs.narrow.less_two.Goals as goal
 
 pub returns : goal.returns
-returns c = let two = c.less_known-second in
+returns c =
+    let two = c.less_known-second in
     let one = c.less_known-first in
     let a = c.args in
     let mid = one.new.poles in

@@ -5,8 +5,8 @@ use Rattle.making.proofs.HandedLaws.{handed_copy}
 use Rattle.making.proofs.output.hand_knots.Goals as goal
 
 pub returns : goal.returns
-returns c = let s = c in
+returns c =
     record {
-      for_flat = handed_copy s.args.b (s.args.b + (s.args.m + s.args.degree + 1)) _ _ _ s.requires.flat_in (omega (arith, s.requires.for_flat)) c.copy.ensures;
+      for_flat = handed_copy c.args.b (c.args.b + (c.args.m + c.args.degree + 1)) _ _ _ c.requires.flat_in (omega (arith, c.requires.for_flat)) c.copy.ensures;
       runs = c.compress_knots.ensures;
     }

@@ -5,8 +5,8 @@ use Rattle.making.proofs.HandedLaws.{handed_copy}
 use Rattle.making.proofs.output.hand_out.Goals as goal
 
 pub returns : goal.returns
-returns c = let s = c in
+returns c =
     record {
-      for_poles = handed_copy s.args.a (s.args.a + 3 * s.args.m) _ _ _ s.requires.poles_inside (omega (arith, s.requires.for_poles)) c.copy.ensures;
+      for_poles = handed_copy c.args.a (c.args.a + 3 * c.args.m) _ _ _ c.requires.poles_inside (omega (arith, c.requires.for_poles)) c.copy.ensures;
       knots_out = c.hand_knots.ensures;
     }

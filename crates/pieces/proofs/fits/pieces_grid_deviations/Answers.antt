@@ -5,7 +5,8 @@ use Rattle.tables.specs.declared.Measured.{Measured}
 use Rattle.pieces.proofs.fits.pieces_grid_deviations.Goals as goal
 
 pub returns : goal.returns
-returns c = let e = c.grid_deviations-measured.ensures in
+returns c =
+    let e = c.grid_deviations-measured.ensures in
     record {
       value = ap (λ (m : Measured). m.unreadable) e.measures;
       most_after = ap (λ (m : Measured). set c.args.most.now 0 m.largest) e.measures;

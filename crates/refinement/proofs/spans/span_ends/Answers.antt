@@ -11,7 +11,8 @@ unfolding gathered
 loop-k-init c = (omega arith, (refl, (omega arith, (refl, refl))))
 
 pub loop-k-preserved : goal.loop-k-preserved
-loop-k-preserved c = let l = c.loop-k in
+loop-k-preserved c =
+    let l = c.loop-k in
     let old = c.args.firsts.now in
     let e = sym c.closes_span.ensures in
     elim c.if-closes_span.branch [
@@ -21,5 +22,6 @@ loop-k-preserved c = let l = c.loop-k in
 
 pub returns : goal.returns
 unfolding span_ends
-returns c = let e : c.loop-k.k ≡ length c.args.firsts.now = omega arith in
+returns c =
+    let e : c.loop-k.k ≡ length c.args.firsts.now = omega arith in
     (rw e at c.loop-k.invariant.1.0, rw e at c.loop-k.invariant.1.1.1.1)

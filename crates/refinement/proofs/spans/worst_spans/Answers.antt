@@ -24,7 +24,8 @@ unfolding list_of
 loop-s-init c = (omega arith, (refl, refl))
 
 pub offset_bounds-squares-a : goal.offset_bounds-squares-a
-offset_bounds-squares-a c = let in_List = span (goal.at.offset_bounds-squares-a c).At-loop-s (omega arith) in
+offset_bounds-squares-a c =
+    let in_List = span (goal.at.offset_bounds-squares-a c).At-loop-s (omega arith) in
     let h : c.start_of-a.result < length c.loop-s.squares = omega (arith, c.start_of-a.ensures) in
     search rules
 
@@ -42,7 +43,8 @@ bounds-squares-s c = let in_List = span (goal.at.bounds-squares-s c).At-loop-s (
 
 pub loop-s-preserved : goal.loop-s-preserved
 unfolding worst_of
-loop-s-preserved c = let old = c.args.squares.now in
+loop-s-preserved c =
+    let old = c.args.squares.now in
     let ends = c.args.ends.now in
     let from = start_of ends c.loop-s.s in
     let to = end_of ends c.loop-s.s in
@@ -65,6 +67,7 @@ loop-s-preserved c = let old = c.args.squares.now in
 
 pub returns : goal.returns
 unfolding span_worsts
-returns c = let e : c.loop-s.s ≡ length c.args.ends.now = omega arith in
+returns c =
+    let e : c.loop-s.s ≡ length c.args.ends.now = omega arith in
     let n = length-list_of (length c.args.ends.now) (worst_of (roots_of c.args.squares.now) c.args.ends.now) in
     rw n at (rw e at c.loop-s.invariant.1.1)

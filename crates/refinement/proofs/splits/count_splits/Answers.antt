@@ -14,7 +14,8 @@ pub overflow_add-count : goal.overflow_add-count
 overflow_add-count c = omega (arith, count_most c.loop-s.s (splits c.args.ends.now c.args.worsts.now c.args.tolerance c.args.threshold))
 
 pub loop-s-preserved : goal.loop-s-preserved
-loop-s-preserved c = let l = c.loop-s in
+loop-s-preserved c =
+    let l = c.loop-s in
     let e = c.splits_span.ensures in (
       omega arith,
       elim c.if-splits_span.branch [

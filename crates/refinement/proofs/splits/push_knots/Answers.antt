@@ -9,23 +9,27 @@ use Rattle.refinement.proofs.splits.push_knots.Goals.{After-splits_span, then-sp
 
 -- what the loop reads is as it was at the start
 here : (x : After-splits_span) → let a = x.args in x.splits_span.result ≡ splits a.ends.now (part a.d a.e a.work.now) a.tolerance a.threshold x.loop-s.s
-here x = let b = x.requires.p_le_q in
-    rw (pushing_worsts _ _ _ _ _ _ _ _ _ b.0 b.1.0 b.1.1.0 b.1.1.1 x.requires.work_in_bounds _ _ _ x.loop-s.invariant) at x.splits_span.ensures
+here x =
+    let b = x.requires.in_order in
+    rw (pushing_worsts _ _ _ _ _ _ _ _ _ b.0 b.1.0 b.1.1.0 b.1.1.1 x.requires.room _ _ _ x.loop-s.invariant) at x.splits_span.ensures
 
 -- there is room for one knot more
 room : (x : After-splits_span) → x.splits_span.result ≡ true → x.loop-s.at < length x.loop-s.work
-room x taken = let b = x.requires.p_le_q in
-    pushing-room _ _ _ _ _ _ _ _ _ b.0 b.1.0 b.1.1.0 b.1.1.1 x.requires.work_in_bounds _ _ _ x.loop-s.invariant (omega arith) (sym (here x) ∙ taken)
+room x taken =
+    let b = x.requires.in_order in
+    pushing-room _ _ _ _ _ _ _ _ _ b.0 b.1.0 b.1.1.0 b.1.1.1 x.requires.room _ _ _ x.loop-s.invariant (omega arith) (sym (here x) ∙ taken)
 
 pub loop-s-init : goal.loop-s-init
 loop-s-init c = let a = c.args in pushing-none a.work.now a.ends.now a.p a.q a.d a.e a.to a.tolerance a.threshold
 
 pub splits_span-requires : goal.splits_span-requires
-splits_span-requires c = let a = c.args in
+splits_span-requires c =
+    let a = c.args in
     (omega arith, (c.requires.rising.0, omega (arith, length_part a.d a.e c.loop-s.work (omega arith))))
 
 pub middle_knot-knot-requires : goal.middle_knot-knot-requires
-middle_knot-knot-requires c = let a = c.args in
+middle_knot-knot-requires c =
+    let a = c.args in
     let l = c.loop-s in
     let split = sym (here (goal.at.middle_knot-knot-requires c).After-splits_span) ∙ c.if-splits_span.true in
     (omega arith, (splits_wide _ _ _ _ l.s split, omega (arith, c.requires.rising.1 l.s (omega arith), length_part a.p a.q l.work (omega arith))))
@@ -40,10 +44,11 @@ pub overflow_add-at : goal.overflow_add-at
 overflow_add-at c = let y = room (goal.at.overflow_add-at c).After-splits_span c.if-splits_span.true in search rules
 
 pub loop-s-preserved : goal.loop-s-preserved
-loop-s-preserved c = let a = c.args in
+loop-s-preserved c =
+    let a = c.args in
     let l = c.loop-s in
-    let w = c.requires.work_in_bounds in
-    let b = c.requires.p_le_q in
+    let w = c.requires.room in
+    let b = c.requires.in_order in
     let split = sym (here (goal.at.loop-s-preserved c).After-splits_span) in
     let same = pushing-params _ _ _ _ _ _ _ _ _ b.0 b.1.0 b.1.1.0 b.1.1.1 w _ _ _ l.invariant in
     elim c.if-splits_span.branch [

@@ -14,14 +14,16 @@ returns-then-is_beyond c = rw (← c.is_lone.ensures, c.if-is_lone.false, ← c.
 
 pub returns-then-lone_misses : goal.returns-then-lone_misses
 unfolding splits
-returns-then-lone_misses c = let a = c.args in
+returns-then-lone_misses c =
+    let a = c.args in
     let w = c.wrapping_sub_usize-before in
     let e = before_wrapped a.ends.now a.worsts.now a.tolerance a.threshold a.s w.result w.ensures.value (omega arith) (omega arith) in
     rw (← c.is_lone.ensures, c.if-is_lone.false, ← c.is_beyond.ensures, c.if-is_beyond.false, ← e, ← c.lone_misses.ensures, c.if-lone_misses.true)
 
 pub returns : goal.returns
 unfolding splits
-returns c = let a = c.args in
+returns c =
+    let a = c.args in
     let w = c.wrapping_sub_usize-before in
     let e = before_wrapped a.ends.now a.worsts.now a.tolerance a.threshold a.s w.result w.ensures.value (omega arith) (omega arith) in
     rw (← c.is_lone.ensures, c.if-is_lone.false, ← c.is_beyond.ensures, c.if-is_beyond.false, ← e, ← c.lone_misses.ensures, c.if-lone_misses.false) c.lone_misses-2.ensures

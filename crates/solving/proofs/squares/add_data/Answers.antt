@@ -13,7 +13,8 @@ use native.Mathlib.Omega.{arith}
 use Rattle.solving.proofs.squares.add_data.Goals as goal
 
 pub loop-k-init : goal.loop-k-init
-loop-k-init c = let a = c.args in
+loop-k-init c =
+    let a = c.args in
     going_start a.poles (a.poles + 3 * a.m) 0 a.poles (add_point a.table a.index.now a.points.now a.given a.r) (length-point a.table a.index.now a.points.now a.given a.r) a.work.now (record { writes = omega arith; reads = omega arith; fits = omega arith; apart = inl (omega arith) }) 0 a.table.count
 
 pub data_point-q-requires : goal.data_point-q-requires
@@ -26,18 +27,21 @@ pub overflow_add-values : goal.overflow_add-values
 overflow_add-values c = omega (arith, row_inside c.loop-k.k c.args.table.count (c.args.table.degree + 1) (omega arith))
 
 pub add_datum-requires : goal.add_datum-requires
-add_datum-requires c = let t = c.args.table in
+add_datum-requires c =
+    let t = c.args.table in
     let k = c.loop-k.k in
     let n = row_inside k t.count (t.degree + 1) (omega arith) in
     omega (arith, pole_in c.requires.has_table.0 k (omega arith))
 
 pub loop-k-preserved : goal.loop-k-preserved
-loop-k-preserved c = let a = c.args in
+loop-k-preserved c =
+    let a = c.args in
     let w : List Float = c.loop-k.work in
     going-turn a.poles (a.poles + 3 * a.m) 0 a.poles (add_point a.table a.index.now a.points.now a.given a.r) (length-point a.table a.index.now a.points.now a.given a.r) a.work.now (record { writes = omega arith; reads = omega arith; fits = omega arith; apart = inl (omega arith) }) 0 a.table.count w _ c.loop-k.k c.loop-k.invariant (omega arith)
     (c.add_datum.ensures ∙ ap (λ (l : List Float). splice a.poles (a.poles + 3 * a.m) l w) (point-turn a.table a.index.now a.points.now a.given a.r a.poles w (data_wider _ _ _ _ _ _ _ c.requires.has_table.1 (omega arith) (omega arith)) c.requires.has_table.2 (omega arith) c.loop-k.k (omega arith) _ c.data_point-q.ensures (part a.poles (a.poles + 3 * a.m) w)))
 
 pub returns : goal.returns
-returns c = let a = c.args in
+returns c =
+    let a = c.args in
     going_end a.poles (a.poles + 3 * a.m) 0 a.poles (add_point a.table a.index.now a.points.now a.given a.r) (length-point a.table a.index.now a.points.now a.given a.r) a.work.now (record { writes = omega arith; reads = omega arith; fits = omega arith; apart = inl (omega arith) }) 0 a.table.count c.loop-k.work c.loop-k.k c.loop-k.invariant (omega arith)
     ∙ ap (λ (l : List Float). splice a.poles (a.poles + 3 * a.m) l a.work.now) (points_kept a.table a.index.now a.points.now a.given a.r a.poles a.work.now c.requires.has_table.1 c.requires.has_table.2 (omega arith) (part 0 a.poles a.work.now) (front-part a.poles a.work.now) (part a.poles (a.poles + 3 * a.m) a.work.now))

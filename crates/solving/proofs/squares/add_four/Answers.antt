@@ -9,7 +9,8 @@ use Rattle.solving.proofs.SquareLaws.{length-row-value, band-apart}
 use Rattle.solving.proofs.squares.add_four.Goals as goal
 
 pub returns : goal.returns
-returns c = let four = c.add_value-4 in
+returns c =
+    let four = c.add_value-4 in
     let three = c.add_value-3 in
     let two = c.add_value-2 in
     let one = c.add_value in

@@ -14,23 +14,27 @@ pub overflow_add-i : goal.overflow_add-i
 overflow_add-i c = omega (arith, pole-row c.args.first c.args.p c.args.a _ c.requires.1 c.requires.0.poles)
 
 pub loop-c-init : goal.loop-c-init
-loop-c-init c = let a = c.args in
+loop-c-init c =
+    let a = c.args in
     going_start a.band a.end a.row (a.row + (a.p + 1)) (add_row_product a.p a.first a.a a.x) (length-row_product a.p a.first a.a a.x) a.work.now (band-apart c.requires.0) 0 (a.a + 1)
 
 pub overflow_add-j : goal.overflow_add-j
 overflow_add-j c = omega (arith, pole-row c.args.first c.args.p c.args.a _ c.requires.1 c.requires.0.poles)
 
 pub band_entry-old-requires : goal.band_entry-old-requires
-band_entry-old-requires c = let w = c.loop-c.work in
+band_entry-old-requires c =
+    let w = c.loop-c.work in
     omega (arith, pole-row c.args.first c.args.p c.args.a _ c.requires.1 c.requires.0.poles, length_part c.args.band c.args.end w (omega arith))
 
 pub put_band_entry-requires : goal.put_band_entry-requires
-put_band_entry-requires c = let w = c.loop-c.work in
+put_band_entry-requires c =
+    let w = c.loop-c.work in
     omega (arith, pole-row c.args.first c.args.p c.args.a _ c.requires.1 c.requires.0.poles, length_part c.args.band c.args.end w (omega arith))
 
 pub loop-c-preserved : goal.loop-c-preserved
 unfolding add_row_product
-loop-c-preserved c = let a = c.args in
+loop-c-preserved c =
+    let a = c.args in
     let w : List Float = c.loop-c.work in
     let row : List Float = part a.row (a.row + (a.p + 1)) w in
     let put : c.put_band_entry.new.band ≡ add_row_product a.p a.first a.a a.x row c.loop-c.c (part a.band a.end w) =
@@ -39,5 +43,6 @@ loop-c-preserved c = let a = c.args in
     (ap (λ (l : List Float). splice a.band a.end l w) put)
 
 pub returns : goal.returns
-returns c = let a = c.args in
+returns c =
+    let a = c.args in
     going_end a.band a.end a.row (a.row + (a.p + 1)) (add_row_product a.p a.first a.a a.x) (length-row_product a.p a.first a.a a.x) a.work.now (band-apart c.requires.0) 0 (a.a + 1) c.loop-c.work c.loop-c.c c.loop-c.invariant (omega arith)

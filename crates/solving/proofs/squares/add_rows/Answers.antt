@@ -14,7 +14,8 @@ use native.Mathlib.Omega.{arith}
 use Rattle.solving.proofs.squares.add_rows.Goals as goal
 
 pub loop-k-init : goal.loop-k-init
-loop-k-init c = let a = c.args in
+loop-k-init c =
+    let a = c.args in
     let t = a.table in
     let fs : List ℕ = part t.firsts (t.firsts + t.count) a.index.now in
     going_start a.band (a.band + a.m * (t.degree + 1)) t.values (t.values + t.count * (t.degree + 1)) (λ X. add_parameter (table_with t.degree fs X)) (λ X. length_parameter (table_with t.degree fs X)) a.work.now (record { writes = omega arith; reads = omega arith; fits = omega arith; apart = inl (omega arith) }) 0 t.count
@@ -26,7 +27,8 @@ pub overflow_add-values : goal.overflow_add-values
 overflow_add-values c = omega (arith, row_inside c.loop-k.k c.args.table.count (c.args.table.degree + 1) (omega arith))
 
 pub add_row-requires : goal.add_row-requires
-add_row-requires c = let t = c.args.table in
+add_row-requires c =
+    let t = c.args.table in
     let k = c.loop-k.k in
     let n = row_inside k t.count (t.degree + 1) (omega arith) in
     let f : get_or c.args.index.now (t.firsts + k) 0 + t.degree ≤ c.args.m = omega (arith, pole_in c.requires.has_table k (omega arith)) in
@@ -35,7 +37,8 @@ add_row-requires c = let t = c.args.table in
 
 pub loop-k-preserved : goal.loop-k-preserved
 unfolding table_in
-loop-k-preserved c = let a = c.args in
+loop-k-preserved c =
+    let a = c.args in
     let t = a.table in
     let fs : List ℕ = part t.firsts (t.firsts + t.count) a.index.now in
     let w : List Float = c.loop-k.work in
@@ -44,7 +47,8 @@ loop-k-preserved c = let a = c.args in
 
 pub returns : goal.returns
 unfolding table_in
-returns c = let a = c.args in
+returns c =
+    let a = c.args in
     let t = a.table in
     let fs : List ℕ = part t.firsts (t.firsts + t.count) a.index.now in
     going_end a.band (a.band + a.m * (t.degree + 1)) t.values (t.values + t.count * (t.degree + 1)) (λ X. add_parameter (table_with t.degree fs X)) (λ X. length_parameter (table_with t.degree fs X)) a.work.now (record { writes = omega arith; reads = omega arith; fits = omega arith; apart = inl (omega arith) }) 0 t.count c.loop-k.work c.loop-k.k c.loop-k.invariant (omega arith)

@@ -8,5 +8,6 @@ use Rattle.solving.proofs.squares.add_value.Goals as goal
 
 pub returns : goal.returns
 unfolding add_row_value
-returns c = let a = c.args in
+returns c =
+    let a = c.args in
     rw (← get_d_part a.row (a.row + (a.p + 1)) a.work.now a.a nan (omega arith)) at c.add_products.ensures

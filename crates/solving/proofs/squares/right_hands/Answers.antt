@@ -27,12 +27,14 @@ pub overflow_add-start : goal.overflow_add-start
 overflow_add-start c = omega (arith, row_inside c.loop-r.r c.args.given.lines c.args.m (omega arith))
 
 pub right_hand-requires : goal.right_hand-requires
-right_hand-requires c = let n = c.loop-r.invariant.1.long in
+right_hand-requires c =
+    let n = c.loop-r.invariant.1.long in
     let p = row_inside c.loop-r.r c.args.given.lines c.args.m (omega arith) in
-    record { has_table = (has-table-kept c.requires.table n, data_wider _ _ _ _ _ _ _ c.requires.lines (omega arith) (omega (arith, n, p)), omega arith); degree_bound = omega (arith, n, p) }
+    record { has_table = (has-table-kept c.requires.table n, data_wider _ _ _ _ _ _ _ c.requires.lines (omega arith) (omega (arith, n, p)), omega arith); regions = omega (arith, n, p) }
 
 pub loop-r-preserved : goal.loop-r-preserved
-loop-r-preserved c = let a = c.args in
+loop-r-preserved c =
+    let a = c.args in
     let l = c.loop-r in
     let w : List Float = a.work.now in
     let same = right_kept a.table a.index.now a.points.now a.given l.r a.band w c.requires.lines (omega arith) c.requires.behind a.m l.work c.requires.table (take_less a.band a.poles w l.work (omega arith) l.invariant.1.front) in (

@@ -12,12 +12,14 @@ use Rattle.solving.proofs.ThroughLaws.{line_solved, solved-kept, line_first, fir
 use Rattle.solving.proofs.through.interpolated_line.Goals as goal
 
 pub data_point-first-requires : goal.data_point-first-requires
-data_point-first-requires c = let a = c.args in
+data_point-first-requires c =
+    let a = c.args in
     let p = c.requires.0 in
     has-point a.given a.n a.from a.points.now c.substitute_band.new.work (data_wider a.given a.n a.from a.from a.points.now a.work.now c.substitute_band.new.work p.given (omega arith) (omega arith)) a.r 0 p.line (omega arith)
 
 pub data_point-last-requires : goal.data_point-last-requires
-data_point-last-requires c = let a = c.args in
+data_point-last-requires c =
+    let a = c.args in
     let p = c.requires.0 in
     let w : List Float = splice a.from a.to c.put_point.new.points c.substitute_band.new.work in
     let room : a.from ≤ length w = omega (arith, c, c, c) in
@@ -39,7 +41,8 @@ pub put_point-requires-2 : goal.put_point-requires-2
 put_point-requires-2 c = omega (arith, c, c, c)
 
 pub returns : goal.returns
-returns c = let a = c.args in
+returns c =
+    let a = c.args in
     let p = c.requires.0 in
     let s = c.requires.1 in
     let f = data_point a.given a.points.now a.work.now a.r in

@@ -10,24 +10,29 @@ use Rattle.solving.proofs.ThroughLaws.{lines_start, lines-turn, interpolated}
 use Rattle.solving.proofs.through.interpolation.Goals as goal
 
 pub loop-r-init : goal.loop-r-init
-loop-r-init c = let a = c.args in
+loop-r-init c =
+    let a = c.args in
     let end = a.band + a.table.count * (2 * (a.table.degree - 1) + 1) in
     (omega arith, refl, lines_start a.poles a.band end (a.table.degree - 1) a.table.count a.given a.points.now (splice a.band end c.factor_band.new.band c.interpolation_matrix.new.work))
 
 pub overflow_mul-from-in-loop-r : goal.overflow_mul-from-in-loop-r
-overflow_mul-from-in-loop-r c = let a = c.args in
+overflow_mul-from-in-loop-r c =
+    let a = c.args in
     omega (arith, row_inside c.loop-r.r a.given.lines (3 * a.table.count) (omega arith), c.requires.room, c.well_formed)
 
 pub overflow_add-from : goal.overflow_add-from
-overflow_add-from c = let a = c.args in
+overflow_add-from c =
+    let a = c.args in
     omega (arith, row_inside c.loop-r.r a.given.lines (3 * a.table.count) (omega arith), c.requires.room, c.well_formed)
 
 pub overflow_add-to : goal.overflow_add-to
-overflow_add-to c = let a = c.args in
+overflow_add-to c =
+    let a = c.args in
     omega (arith, row_inside c.loop-r.r a.given.lines (3 * a.table.count) (omega arith), c.requires.room, c.well_formed)
 
 pub interpolated_line-requires : goal.interpolated_line-requires
-interpolated_line-requires c = let a = c.args in
+interpolated_line-requires c =
+    let a = c.args in
     let p = c.requires in
     let n : ℕ = a.table.count in
     let h : ℕ = a.table.degree - 1 in
@@ -39,7 +44,8 @@ interpolated_line-requires c = let a = c.args in
     (record { given = data_wider a.given n a.band from a.points.now a.work.now c.loop-r.work p.given (omega (arith, p.apart)) (omega arith); line = omega arith; size = refl; room = room }, record { regions = record { factors = omega arith; apart = omega (arith, p.apart); points = omega arith; fits = room }; width = omega (arith, p.table.high); rows = omega arith; places = omega arith }, omega (arith, p.table.some))
 
 pub loop-r-preserved : goal.loop-r-preserved
-loop-r-preserved c = let a = c.args in
+loop-r-preserved c =
+    let a = c.args in
     let p = c.requires in
     let n : ℕ = a.table.count in
     let h : ℕ = a.table.degree - 1 in
@@ -49,7 +55,8 @@ loop-r-preserved c = let a = c.args in
     (omega arith, omega arith, lines-turn a.poles a.band end h n c.loop-r.r a.given a.points.now w c.loop-r.work c.interpolated_line.new.work (data_wider a.given n a.band a.band a.points.now a.work.now w p.given (omega arith) (omega (arith, p.apart, p.room))) (omega arith) (omega (arith, p.table.some)) (omega arith) p.apart (omega (arith, p.room)) c.loop-r.invariant.2 c.interpolated_line.ensures)
 
 pub returns : goal.returns
-returns c = let a = c.args in
+returns c =
+    let a = c.args in
     let n : ℕ = a.table.count in
     let h : ℕ = a.table.degree - 1 in
     let end : ℕ = a.band + n * (2 * h + 1) in

@@ -7,27 +7,31 @@ use Rattle.solving.proofs.ThroughLaws.{row_turn, length-row-turn, matrix-apart, 
 use Rattle.solving.proofs.through.interpolation_matrix.Goals as goal
 
 pub loop-j-init : goal.loop-j-init
-loop-j-init c = let a = c.args in
+loop-j-init c =
+    let a = c.args in
     let w = c.fill.new.out in
     let end = a.band + a.table.count * (2 * (a.table.degree - 1) + 1) in
     let x = has-matrix-kept a.table a.band end a.work.now w a.index.now c.requires (omega arith) in
     going_start a.band end a.table.values (a.table.values + a.table.count * (a.table.degree + 1)) (row_turn a.table a.index.now) (length-row-turn a.table a.index.now) w (matrix-apart x) 0 a.table.count
 
 pub put_values-requires : goal.put_values-requires
-put_values-requires c = let a = c.args in
+put_values-requires c =
+    let a = c.args in
     let end = a.band + a.table.count * (2 * (a.table.degree - 1) + 1) in
     (has-matrix-kept a.table a.band end a.work.now c.loop-j.work a.index.now c.requires (omega arith), omega arith)
 
 pub loop-j-preserved : goal.loop-j-preserved
 unfolding table_in
-loop-j-preserved c = let a = c.args in
+loop-j-preserved c =
+    let a = c.args in
     let w = c.fill.new.out in
     let end = a.band + a.table.count * (2 * (a.table.degree - 1) + 1) in
     let x = has-matrix-kept a.table a.band end a.work.now w a.index.now c.requires (omega arith) in
     going-turn a.band end a.table.values (a.table.values + a.table.count * (a.table.degree + 1)) (row_turn a.table a.index.now) (length-row-turn a.table a.index.now) w (matrix-apart x) 0 a.table.count c.loop-j.work _ c.loop-j.j c.loop-j.invariant (omega arith) c.put_values.ensures
 
 pub returns : goal.returns
-returns c = let a = c.args in
+returns c =
+    let a = c.args in
     let w = c.fill.new.out in
     let end = a.band + a.table.count * (2 * (a.table.degree - 1) + 1) in
     let x = has-matrix-kept a.table a.band end a.work.now w a.index.now c.requires (omega arith) in

@@ -14,15 +14,18 @@ apart : (band end from width : ℕ) (work : List Float) → from + width ≤ ban
 apart band end from width work h i k = record { writes = i; reads = omega arith; fits = k; apart = inl h }
 
 pub loop-a-init : goal.loop-a-init
-loop-a-init c = let a = c.args in
+loop-a-init c =
+    let a = c.args in
     going_start a.band a.end a.from (a.from + a.width) (put_column a.h a.j a.first) (length_put_column a.h a.j a.first) a.work.now (apart a.band a.end a.from a.width a.work.now (omega arith) (omega arith) (omega arith)) 0 a.width
 
 pub loop-a-preserved : goal.loop-a-preserved
 unfolding put_column
-loop-a-preserved c = let a = c.args in
+loop-a-preserved c =
+    let a = c.args in
     going-turn a.band a.end a.from (a.from + a.width) (put_column a.h a.j a.first) (length_put_column a.h a.j a.first) a.work.now (apart a.band a.end a.from a.width a.work.now (omega arith) (omega arith) (omega arith)) 0 a.width c.loop-a.work _ c.loop-a.a c.loop-a.invariant (omega arith)
     (rw (c.put_within.ensures, get_d_part a.from (a.from + a.width) c.loop-a.work c.loop-a.a nan (omega arith)))
 
 pub returns : goal.returns
-returns c = let a = c.args in
+returns c =
+    let a = c.args in
     going_end a.band a.end a.from (a.from + a.width) (put_column a.h a.j a.first) (length_put_column a.h a.j a.first) a.work.now (apart a.band a.end a.from a.width a.work.now (omega arith) (omega arith) (omega arith)) 0 a.width c.loop-a.work c.loop-a.a c.loop-a.invariant (omega arith)

@@ -17,7 +17,8 @@ pub overflow_add-from : goal.overflow_add-from
 overflow_add-from c = let a = c.args in omega (arith, row_inside a.j a.table.count (a.table.degree + 1) (omega arith))
 
 pub put_row-requires : goal.put_row-requires
-put_row-requires c = let a = c.args in
+put_row-requires c =
+    let a = c.args in
     let p = c.requires.0 in
     let rows = row_inside a.j a.table.count (2 * (a.table.degree - 1) + 1) (omega arith) in
     let values = row_inside a.j a.table.count (a.table.degree + 1) (omega arith) in
@@ -26,5 +27,6 @@ put_row-requires c = let a = c.args in
     omega (arith, rows, values, column, pole, p.table.few, p.table.high)
 
 pub returns : goal.returns
-returns c = let a = c.args in
+returns c =
+    let a = c.args in
     c.put_row.ensures ∙ ap (λ (ys : List Float). splice a.band a.end ys a.work.now) (row_in-table a.table a.work.now a.index.now a.j (part a.band a.end a.work.now) (omega arith))
