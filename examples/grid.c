@@ -33,7 +33,7 @@ int main(void) {
     size_t index[NIGORZAI_GRID_INDEX_LENGTH(LARGER)], counts[8];
 
     uint32_t refusal = nigorzai_approximate_grid_within(
-        points, 3 * ROWS * COLS, ROWS, COLS, DEGREE, DEGREE, 1.0, NIGORZAI_CHORDAL, SLICE(poles), SLICE(uflat), SLICE(uknots), SLICE(umults),
+        points, 3 * ROWS * COLS, ROWS, COLS, DEGREE, DEGREE, 1.0, NIGORZAI_CHORDAL, NIGORZAI_PLAIN, SLICE(poles), SLICE(uflat), SLICE(uknots), SLICE(umults),
         SLICE(vflat), SLICE(vknots), SLICE(vmults), SLICE(work), SLICE(index), SLICE(largest), SLICE(counts));
     if (refusal != 0) {
         printf("refused %u\n", (unsigned)refusal);

@@ -19,7 +19,7 @@ int main(void) {
     static const char *const marks[] = {"", "refined", "spread", "interpolated", "chosen"};
 
     uint32_t refusal = nigorzai_approximate_within(
-        points, 3 * N, DEGREE, 0.5, NIGORZAI_CENTRIPETAL, poles, sizeof poles / sizeof *poles, flat, sizeof flat / sizeof *flat,
+        points, 3 * N, DEGREE, 0.5, NIGORZAI_CENTRIPETAL, NIGORZAI_PLAIN, poles, sizeof poles / sizeof *poles, flat, sizeof flat / sizeof *flat,
         knots, sizeof knots / sizeof *knots, mults, sizeof mults / sizeof *mults, work, sizeof work / sizeof *work,
         index, sizeof index / sizeof *index, largest, 1, counts, 4);
     if (refusal != 0) {

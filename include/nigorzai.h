@@ -21,8 +21,9 @@
  *  13  reader: a knot is at or below the one before it
  *  14  reader: a multiplicity above degree + 1 at an end or above the degree inside
  *  15  reader: a multiplicity 0, a knot not finite, fewer than degree + 1 poles, an empty range, or a parameter that is NaN
- * Of several causes a ladder is refused for the first in the order 7, 8, 1, 2, 3, 4, 9, 10, 5, 6; a grid in the order 8, 2 (u, then
- * v), 1, 6 for the places, 9, 10, 5 (u, then v), 3 and 4 along u, 3 and 4 along v, 6; a reading in the order 9, 7, 8, 2, 12, 13, 14,
+ *  17  the lightness factor is NaN or not in 0.25 to 4
+ * Of several causes a ladder is refused for the first in the order 7, 8, 1, 2, 3, 4, 9, 17, 10, 5, 6; a grid in the order 8, 2 (u, then
+ * v), 1, 6 for the places, 9, 17, 10, 5 (u, then v), 3 and 4 along u, 3 and 4 along v, 6; a reading in the order 9, 7, 8, 2, 12, 13, 14,
  * 6, 15.
  */
 #ifndef NIGORZAI_H
@@ -34,6 +35,9 @@
 /* How the parameters of the points are spaced: any other number than 0 is centripetal. */
 #define NIGORZAI_CHORDAL 0
 #define NIGORZAI_CENTRIPETAL 1
+
+/* Every distance of a call takes a lightness factor: the difference of the first coordinates is multiplied by it before squaring. With 1 it is the plain distance. */
+#define NIGORZAI_PLAIN 1.0
 
 /* counts[NIGORZAI_MARK]: which step gave the knots and poles. */
 #define NIGORZAI_REFINED 1
@@ -61,7 +65,7 @@
  *   largest  the largest computed deviation of a point from the curve, NaN passed over
  *   counts   the mark, the poles, the distinct knots, and how many deviations are unreadable (NaN)
  * Places beyond are as they were. After a refusal poles, flat, knots, mults, largest and counts are as they were; work and index
- * are as they were after 1 to 4 and 7 to 10, and 0 in every place after 5 and 6.
+ * are as they were after 1 to 4, 7 to 10 and 17, and 0 in every place after 5 and 6.
  */
 #define NIGORZAI_LENT \
     double *poles, size_t poles_length, double *flat, size_t flat_length, double *knots, size_t knots_length, \
@@ -73,16 +77,16 @@ extern "C" {
 #endif
 
 /* The curve through the points, with as many poles. */
-uint32_t nigorzai_interpolate(const double *points, size_t points_length, size_t degree, size_t spacing, NIGORZAI_LENT);
+uint32_t nigorzai_interpolate(const double *points, size_t points_length, size_t degree, size_t spacing, double factor, NIGORZAI_LENT);
 
 /* Least squares with a chosen number of poles. */
-uint32_t nigorzai_approximate(const double *points, size_t points_length, size_t degree, size_t count, size_t spacing, NIGORZAI_LENT);
+uint32_t nigorzai_approximate(const double *points, size_t points_length, size_t degree, size_t count, size_t spacing, double factor, NIGORZAI_LENT);
 
 /* Within a tolerance: by refinement of the knots, else by the search over pole counts on spread knots (what it finds passes, one pole fewer does not), else through the points. */
-uint32_t nigorzai_approximate_within(const double *points, size_t points_length, size_t degree, double tolerance, size_t spacing, NIGORZAI_LENT);
+uint32_t nigorzai_approximate_within(const double *points, size_t points_length, size_t degree, double tolerance, size_t spacing, double factor, NIGORZAI_LENT);
 
 /* The search over pole counts on spread knots alone, else through the points. */
-uint32_t nigorzai_search_spread(const double *points, size_t points_length, size_t degree, double tolerance, size_t spacing, NIGORZAI_LENT);
+uint32_t nigorzai_search_spread(const double *points, size_t points_length, size_t degree, double tolerance, size_t spacing, double factor, NIGORZAI_LENT);
 
 /* A grid is rows * cols points, row after row; u runs along the rows' numbers and v along a row. The needed lengths, in places, with M
  * for the larger of rows and cols and P for the larger degree. `largest` needs 2 places and `counts` 8. */
@@ -101,7 +105,7 @@ uint32_t nigorzai_search_spread(const double *points, size_t points_length, size
  *   largest        the largest computed deviation: along u of a point from the surface, and then along v of a point from its row's curve
  *   counts         u's mark, poles, distinct knots and unreadable deviations, and then v's
  * Places beyond are as they were. After a refusal all but work and index are as they were; work and index are as they were after 1, 2,
- * 8, 9, 10 and 6 for the places, and 0 in every place after 3, 4, 5 and 6 for the poles.
+ * 8, 9, 10, 17 and 6 for the places, and 0 in every place after 3, 4, 5 and 6 for the poles.
  */
 #define NIGORZAI_GRID_LENT \
     double *poles, size_t poles_length, double *uflat, size_t uflat_length, double *uknots, size_t uknots_length, \
@@ -112,13 +116,13 @@ uint32_t nigorzai_search_spread(const double *points, size_t points_length, size
 /* Least squares with chosen numbers of poles along u and v. */
 uint32_t nigorzai_approximate_grid(
     const double *points, size_t points_length, size_t rows, size_t cols, size_t udegree, size_t vdegree, size_t ucount,
-    size_t vcount, size_t spacing, NIGORZAI_GRID_LENT);
+    size_t vcount, size_t spacing, double factor, NIGORZAI_GRID_LENT);
 
 /* Within a tolerance: the rows within 0.8 of it along v, then the whole grid within it along u, each over the fewer poles of refinement
  * and the search on spread knots, each through its points where neither fits. */
 uint32_t nigorzai_approximate_grid_within(
     const double *points, size_t points_length, size_t rows, size_t cols, size_t udegree, size_t vdegree, double tolerance,
-    size_t spacing, NIGORZAI_GRID_LENT);
+    size_t spacing, double factor, NIGORZAI_GRID_LENT);
 
 /* The point of a curve at a parameter, in the first three places of `out`. */
 uint32_t nigorzai_read(

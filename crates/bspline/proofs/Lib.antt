@@ -3,3 +3,4 @@ pub mod SpanLaws
 pub mod Recurrence
 pub mod ReaderLaws
 pub mod CheckLaws
+pub mod Examples

@@ -7,12 +7,12 @@ pub mod reader;
 pub mod spans;
 
 ghost use Rattle.std.specs.Prelude.{◌≡◌};
-ghost use Rattle.bspline.specs.Refusals.{number_of};
+ghost use Rattle.bspline.specs.Refusals.{number_of, factor_verdict};
 
 use geometry::Point;
 
-// Why a call is refused. The first six and TooFewKnots, KnotsNotIncreasing and MultiplicityTooLarge have the Rust's names; document 01 adds the others.
-// Document 01's number for each is `number_of` in specs/Refusals.antt.
+// Why a call is refused. The first six and TooFewKnots, KnotsNotIncreasing and MultiplicityTooLarge have the Rust's names; documents 01 and 02 add the others.
+// Their number for each is `number_of` in specs/Refusals.antt.
 #[derive(Clone, Copy)]
 pub enum Refusal {
     TooFewPoints,
@@ -29,10 +29,17 @@ pub enum Refusal {
     KnotsNotIncreasing,
     MultiplicityTooLarge,
     NotReadable,
+    InvalidTarget,
+    FactorOutOfRange,
+    WeightCountMismatch,
+    NonPositiveWeight,
+    NotConvertible,
+    StepsNotRising,
+    DifferenceTooLarge,
 }
 
 impl Refusal {
-    // Document 01's number.
+    // The documents' number.
     pub fn number(self) -> u32
         ensures { result ≡ number_of self }
     {
@@ -51,6 +58,13 @@ impl Refusal {
             Refusal::KnotsNotIncreasing => 13,
             Refusal::MultiplicityTooLarge => 14,
             Refusal::NotReadable => 15,
+            Refusal::InvalidTarget => 16,
+            Refusal::FactorOutOfRange => 17,
+            Refusal::WeightCountMismatch => 18,
+            Refusal::NonPositiveWeight => 19,
+            Refusal::NotConvertible => 20,
+            Refusal::StepsNotRising => 21,
+            Refusal::DifferenceTooLarge => 22,
         }
     }
 }
@@ -67,4 +81,16 @@ pub enum Verdict {
 pub enum Reading {
     Read(Point),
     Refused(Refusal),
+}
+
+// 17: a lightness factor that is not between 0.25 and 4.
+pub fn check_factor(factor: f64) -> Verdict
+    ensures { result ≡ factor_verdict factor }
+{
+    if factor <= 4.0 {
+        if 0.25 <= factor {
+            return Verdict::Pass;
+        }
+    }
+    Verdict::Stop(Refusal::FactorOutOfRange)
 }

@@ -18,7 +18,7 @@ use Rattle.bspline.specs.declared.Refusal.{Refusal}
 use Rattle.bspline.specs.declared.Refusal.TheVariants.{ConfusedPoints}
 use Rattle.bspline.specs.declared.Verdict.{Verdict}
 use Rattle.bspline.specs.declared.Verdict.TheVariants.{Pass, Stop}
-use Rattle.knots.specs.declared.Spacing.{Spacing}
+use Rattle.knots.specs.declared.Metric.{Metric}
 use Rattle.knots.specs.Parameters.{point_parameters}
 use Rattle.knots.specs.Knots.{run_start, distinct_knots, knot_at, multiplicity_at, averaged_knot, averaged_knots}
 use Rattle.tables.specs.BasisTable.{BasisTable, basis_table}
@@ -67,8 +67,8 @@ firsts-long : (flat : List Float) (p : ℕ) (params : List Float) → length (ba
 unfolding basis_table
 firsts-long flat p params = length-list_of (length params) _
 
-module _ (s : List Float) (degree : ℕ) (params : List Float) where
-  from_stands : (f : Candidate) → From (ladder s degree params) f → Stands degree (length params) f
+module _ (factor : Float) (s : List Float) (degree : ℕ) (params : List Float) where
+  from_stands : (f : Candidate) → From (ladder factor s degree params) f → Stands degree (length params) f
   unfolding ladder
   from_stands f h =
       let e : length f.flat ≡ length h.knots = ap length h.own.flat_is in
@@ -78,7 +78,7 @@ module _ (s : List Float) (degree : ℕ) (params : List Float) where
       record { low = omega arith; high = omega arith; poles-long = omega arith }
 
   -- the curve through the points has a pole for each
-  through_stands : Stands degree (length params) (interpolate (ladder s degree params))
+  through_stands : Stands degree (length params) (interpolate (ladder factor s degree params))
   unfolding interpolate candidate ladder averaged_knots
   through_stands =
       let flat = averaged_knots params degree in
@@ -87,15 +87,15 @@ module _ (s : List Float) (degree : ℕ) (params : List Float) where
       let f = firsts-long flat degree params in
       record { low = omega (arith, c); high = omega (arith, c); poles-long = omega (arith, c, i, f) }
 
-  within_stands : (t : Float) → degree + 1 ≤ length params → Stands degree (length params) (unmarked (fit_within (ladder s degree params) t))
+  within_stands : (t : Float) → degree + 1 ≤ length params → Stands degree (length params) (unmarked (fit_within (ladder factor s degree params) t))
   unfolding fit_within refined_or unmarked ladder
-  within_stands t h = go (fit_with_refined_knots (ladder s degree params) t) refl
+  within_stands t h = go (fit_with_refined_knots (ladder factor s degree params) t) refl
     where
-      go : (o : Option Candidate) → fit_with_refined_knots (ladder s degree params) t ≡ o → Stands degree (length params) (unmarked (refined_or (ladder s degree params) t o))
+      go : (o : Option Candidate) → fit_with_refined_knots (ladder factor s degree params) t ≡ o → Stands degree (length params) (unmarked (refined_or (ladder factor s degree params) t o))
       go none e =
-          alone_cases (ladder s degree params) (ladder_lawful s degree params) t (λ (a : Marked). Stands degree (length params) (unmarked a))
+          alone_cases (ladder factor s degree params) (ladder_lawful factor s degree params) t (λ (a : Marked). Stands degree (length params) (unmarked a))
           (λ c f x y. from_stands f x) through_stands
-      go (some f) e = from_stands f (refined_from (ladder s degree params) t h f e)
+      go (some f) e = from_stands f (refined_from (ladder factor s degree params) t h f e)
 
 -- what an answer and the slices have to be for a result
 abbrev pub Right : Answer → Lent → Result → Type 0
@@ -133,40 +133,40 @@ module _ (degree : ℕ) (l : Lent) where
   right-refused r c e = subst (λ (b : Answer). Right b l (refused c)) (sym e) (tt, refl)
 
 -- the fit that a tolerance asks for
-fit-right : (t : Tolerance) (s : List Float) (degree : ℕ) (params : List Float) (l : Lent) (r : Answer) → degree + 1 ≤ length params → length params ≤ 64 → degree ≤ 25
-    → r ≡ answer_of degree (fit_by (call_of t) (ladder s degree params))
-    → l.poles ≡ handed_poles (fit_by (call_of t) (ladder s degree params)) buffers.poles
-    → l.knots ≡ handed_knots (fit_by (call_of t) (ladder s degree params)) buffers.knots
-    → l.mults ≡ handed_mults (fit_by (call_of t) (ladder s degree params)) buffers.mults
-    → Right r l (fit_by (call_of t) (ladder s degree params))
+fit-right : (t : Tolerance) (factor : Float) (s : List Float) (degree : ℕ) (params : List Float) (l : Lent) (r : Answer) → degree + 1 ≤ length params → length params ≤ 64 → degree ≤ 25
+    → r ≡ answer_of degree (fit_by (call_of t) (ladder factor s degree params))
+    → l.poles ≡ handed_poles (fit_by (call_of t) (ladder factor s degree params)) buffers.poles
+    → l.knots ≡ handed_knots (fit_by (call_of t) (ladder factor s degree params)) buffers.knots
+    → l.mults ≡ handed_mults (fit_by (call_of t) (ladder factor s degree params)) buffers.mults
+    → Right r l (fit_by (call_of t) (ladder factor s degree params))
 unfolding fit_by unmarked
-fit-right Without s degree params l r under few low a p k m =
-    right-accepted degree l r (length params) few low (interpolated (interpolate (ladder s degree params))) (through_stands s degree params) a p k m
-fit-right (Within w) s degree params l r under few low a p k m =
-    right-accepted degree l r (length params) few low (fit_within (ladder s degree params) (of_bits binary64 w)) (within_stands s degree params (of_bits binary64 w) under) a p k m
+fit-right Without factor s degree params l r under few low a p k m =
+    right-accepted degree l r (length params) few low (interpolated (interpolate (ladder factor s degree params))) (through_stands factor s degree params) a p k m
+fit-right (Within w) factor s degree params l r under few low a p k m =
+    right-accepted degree l r (length params) few low (fit_within (ladder factor s degree params) (of_bits binary64 w)) (within_stands factor s degree params (of_bits binary64 w) under) a p k m
 
-by-tolerance : (t : Tolerance) (s : List Float) (degree : ℕ) (v : Spacing) (l : Lent) (r : Answer) → length s ≤ 192 → LadderCall (call_of t) s degree v buffers l r
+by-tolerance : (t : Tolerance) (s : List Float) (degree : ℕ) (v : Metric) (l : Lent) (r : Answer) → length s ≤ 192 → LadderCall (call_of t) s degree v buffers l r
     → Right r l (result_of (call_of t) s degree v buffers)
 unfolding ladder_fit result_of checked fit_with
 by-tolerance t s degree v l r few c =
-    go (ladder_checks (call_of t) s degree buffers) refl (point_parameters v (point_count s) (point_at s)) refl c.hands.answer c.hands.poles c.hands.knots c.hands.mults
+    go (ladder_checks (call_of t) s degree v buffers) refl (point_parameters v (point_count s) (point_at s)) refl c.hands.answer c.hands.poles c.hands.knots c.hands.mults
   where
-    go : (w : Verdict) → ladder_checks (call_of t) s degree buffers ≡ w → (o : Option (List Float)) → point_parameters v (point_count s) (point_at s) ≡ o
-        → r ≡ answer_of degree (checked w (fit_with s degree (fit_by (call_of t)) o))
-        → l.poles ≡ handed_poles (checked w (fit_with s degree (fit_by (call_of t)) o)) buffers.poles
-        → l.knots ≡ handed_knots (checked w (fit_with s degree (fit_by (call_of t)) o)) buffers.knots
-        → l.mults ≡ handed_mults (checked w (fit_with s degree (fit_by (call_of t)) o)) buffers.mults
-        → Right r l (checked w (fit_with s degree (fit_by (call_of t)) o))
+    go : (w : Verdict) → ladder_checks (call_of t) s degree v buffers ≡ w → (o : Option (List Float)) → point_parameters v (point_count s) (point_at s) ≡ o
+        → r ≡ answer_of degree (checked w (fit_with v.factor s degree (fit_by (call_of t)) o))
+        → l.poles ≡ handed_poles (checked w (fit_with v.factor s degree (fit_by (call_of t)) o)) buffers.poles
+        → l.knots ≡ handed_knots (checked w (fit_with v.factor s degree (fit_by (call_of t)) o)) buffers.knots
+        → l.mults ≡ handed_mults (checked w (fit_with v.factor s degree (fit_by (call_of t)) o)) buffers.mults
+        → Right r l (checked w (fit_with v.factor s degree (fit_by (call_of t)) o))
     go (Stop q) e o u a p k m = right-refused degree l r q a
     go Pass e none u a p k m = right-refused degree l r ConfusedPoints a
     go Pass e (some params) u a p k m =
-        let g = checks_give (call_of t) s degree buffers e in
+        let g = checks_give (call_of t) s degree v buffers e in
         let long = params-long v (point_count s) (point_at s) params u in
         let under = count_under (call_of t) (point_count s) degree g.1 g.0.low in
         let high = g.0.high in
-        fit-right t s degree params l r (omega arith) (omega arith) high a p k m
+        fit-right t v.factor s degree params l r (omega arith) (omega arith) high a p k m
 
 -- after the program's call the slices hold the text's fit
-pub call-right : (t : Tolerance) (call : Call) → call ≡ call_of t → (s : List Float) (degree : ℕ) (v : Spacing) (l : Lent) (r : Answer) → length s ≤ 192 → LadderCall call s degree v buffers l r
+pub call-right : (t : Tolerance) (call : Call) → call ≡ call_of t → (s : List Float) (degree : ℕ) (v : Metric) (l : Lent) (r : Answer) → length s ≤ 192 → LadderCall call s degree v buffers l r
     → Right r l (result_of (call_of t) s degree v buffers)
 call-right t call e s degree v l r few c = by-tolerance t s degree v l r few (subst (λ (k : Call). LadderCall k s degree v buffers l r) e c)

@@ -5,6 +5,7 @@ use Rattle.std.specs.Float.Ieee.{of_bits}
 use Rattle.places.specs.Places.{list_of}
 use Rattle.geometry.specs.Doubles.{nought}
 use Rattle.bspline.specs.Refusals.{number_of}
+use Rattle.knots.specs.Parameters.{plain_metric}
 use Rattle.knots.specs.Knots.{distinct_knots, knot_at, multiplicity_at}
 use Rattle.tables.specs.Deviations.{unreadable}
 use Rattle.ladders.specs.declared.Answer.{Answer}
@@ -47,7 +48,7 @@ result_text (accepted a) = fit_text a
 
 -- the text of a ladder's fit, or of its refusal
 abbrev pub ladder_text : Head → List Float → List ℕ
-ladder_text h points = result_text (result_of (call_of h.tolerance) points h.degree h.spacing buffers)
+ladder_text h points = result_text (result_of (call_of h.tolerance) points h.degree (plain_metric h.spacing) buffers)
 
 -- what is printed: 11 for an unreadable text, 8 for a card with over 64 points, else the text of the fit of the card's points or of its refusal
 abbrev pub printed : Judgement → List Float → List ℕ

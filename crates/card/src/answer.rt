@@ -7,6 +7,7 @@ ghost use Rattle.card.specs.Answers.{call_of, FewIn, handed_text, ladder_text, p
 
 use card_reader::{Head, Judgement, Tolerance};
 use checks::Call;
+use knots::Metric;
 use ladders::Answer;
 
 // `none` interpolates.
@@ -56,9 +57,13 @@ fn fit_card(head: Head, points: &[f64], out: &mut [u8]) -> usize
     let degree = head.degree;
     let spacing = head.spacing;
     let tolerance = head.tolerance;
+    let metric = Metric {
+        spacing,
+        factor: 1.0,
+    };
     let call = call_of(tolerance);
     let fitted = ladders::fit_ladder(
-        points, degree, spacing, call, &mut poles, &mut flat, &mut knots, &mut mults, &mut work,
+        points, degree, metric, call, &mut poles, &mut flat, &mut knots, &mut mults, &mut work,
         &mut index,
     );
     put_handed(fitted, &poles, &knots, &mults, out)

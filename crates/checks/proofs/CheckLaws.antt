@@ -11,8 +11,9 @@ use Rattle.places.proofs.PlaceLaws.{or_false}
 use Rattle.bspline.specs.declared.Refusal.{Refusal}
 use Rattle.bspline.specs.declared.Verdict.{Verdict}
 use Rattle.bspline.specs.declared.Verdict.TheVariants.{Pass, Stop}
-use Rattle.bspline.specs.Refusals.{◌next◌}
+use Rattle.bspline.specs.Refusals.{◌next◌, factor_verdict}
 use Rattle.bspline.proofs.CheckLaws.{both_pass, test_fails}
+use Rattle.knots.specs.declared.Metric.{Metric}
 use Rattle.checks.specs.declared.Room.{Room}
 use Rattle.checks.specs.declared.Aim.{Aim}
 use Rattle.checks.specs.declared.Aim.TheVariants.{Count, Within}
@@ -76,10 +77,10 @@ room_pass n p r e =
 
 -- ---- all of them
 
-pub checks_give : (call : Call) (s : List Float) (degree : ℕ) (l : Lent) → ladder_checks call s degree l ≡ Pass
+pub checks_give : (call : Call) (s : List Float) (degree : ℕ) (v : Metric) (l : Lent) → ladder_checks call s degree v l ≡ Pass
     → Shaped (length s) degree × (count_verdict call (point_count s) degree ≡ Pass) × Roomy (point_count s) degree (room_of l)
 unfolding ladder_checks
-checks_give call s degree l e =
+checks_give call s degree v l e =
     let a = both_pass (shape_verdict (length s) degree) _ e in
     let b = both_pass (count_verdict call (point_count s) degree) _ a.1 in
     let c = both_pass (room_verdict (point_count s) degree (room_of l)) _ b.1 in
@@ -111,7 +112,7 @@ aim-chosen aim m n p a e h =
     let c = chosen_pass n p m q in
     (omega (arith, c.0), c.1)
 
-pub checks_are : (call : Call) (s : List Float) (degree : ℕ) (l : Lent) (counts r : Verdict)
-    → r ≡ (shape_verdict (length s) degree next counts next room_verdict (length s / 3) degree (room_of l) next coordinates_verdict s) → counts ≡ count_verdict call (length s / 3) degree → r ≡ ladder_checks call s degree l
+pub checks_are : (call : Call) (s : List Float) (degree : ℕ) (v : Metric) (l : Lent) (counts r : Verdict)
+    → r ≡ (shape_verdict (length s) degree next counts next room_verdict (length s / 3) degree (room_of l) next factor_verdict v.factor next coordinates_verdict s) → counts ≡ count_verdict call (length s / 3) degree → r ≡ ladder_checks call s degree v l
 unfolding ladder_checks
-checks_are call s degree l counts r e f = e ∙ ap (λ (v : Verdict). shape_verdict (length s) degree next v next room_verdict (length s / 3) degree (room_of l) next coordinates_verdict s) f
+checks_are call s degree v l counts r e f = e ∙ ap (λ (c : Verdict). shape_verdict (length s) degree next c next room_verdict (length s / 3) degree (room_of l) next factor_verdict v.factor next coordinates_verdict s) f

@@ -10,13 +10,13 @@ use borrow.Author.Tests.{ltb-false, eqb-true, not-false}
 use Rattle.places.proofs.PlaceLaws.{or_false}
 use Rattle.bspline.specs.declared.Verdict.{Verdict}
 use Rattle.bspline.specs.declared.Verdict.TheVariants.{Pass}
-use Rattle.bspline.specs.Refusals.{◌next◌}
+use Rattle.bspline.specs.Refusals.{◌next◌, factor_verdict}
 use Rattle.bspline.proofs.CheckLaws.{both_pass, test_fails}
 use Rattle.checks.proofs.CheckLaws.{unchosen_pass}
 use Rattle.checks.specs.declared.Shape.{Shape}
 use Rattle.checks.specs.declared.GridRoom.{GridRoom}
 use Rattle.checks.specs.declared.SurfaceCall.TheVariants.{ApproximateWithin}
-use Rattle.knots.specs.declared.Spacing.{Spacing}
+use Rattle.knots.specs.declared.Metric.{Metric}
 use Rattle.checks.specs.LadderChecks.{coordinates_verdict}
 use Rattle.checks.specs.GridChecks.{Grid, GridLent, grid_of, grid_room_of, grid_shape_verdict, grid_room_verdict, grid_checks, counts_verdict, GridShaped, GridRoomy}
 
@@ -89,7 +89,7 @@ pub degrees-under : (t : Float) (h : Shape) → counts_verdict (ApproximateWithi
 unfolding counts_verdict
 degrees-under t h e = let a = both_pass _ _ e in record { u-under = unchosen_pass h.rows h.u a.0; v-under = unchosen_pass h.cols h.v a.1 }
 
-pub grid_checks_are : (points : List Float) (h : Shape) (v : Spacing) (l : GridLent) (r : Verdict) → r ≡ (grid_shape_verdict (length points) h next grid_room_verdict h (grid_room_of l) next coordinates_verdict points)
+pub grid_checks_are : (points : List Float) (h : Shape) (v : Metric) (l : GridLent) (r : Verdict) → r ≡ (grid_shape_verdict (length points) h next grid_room_verdict h (grid_room_of l) next factor_verdict v.factor next coordinates_verdict points)
     → r ≡ grid_checks (grid_of points h v) (grid_room_of l)
 unfolding grid_checks
 grid_checks_are points h v l r e = e

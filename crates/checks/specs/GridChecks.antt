@@ -3,19 +3,19 @@
 use Rattle.std.specs.Prelude.{ℕ, ◌+◌, ◌*◌, ◌≤◌, max, ◌≡◌, not, ◌||◌, List, eqb, ltb, length, Float}
 use Rattle.bspline.specs.declared.Refusal.TheVariants.{TooFewPoints, InvalidDegree, PoleCountMismatch, TooLarge, BufferTooShort}
 use Rattle.bspline.specs.declared.Verdict.{Verdict}
-use Rattle.bspline.specs.Refusals.{stop_if, ◌next◌}
-use Rattle.knots.specs.declared.Spacing.{Spacing}
+use Rattle.bspline.specs.Refusals.{stop_if, ◌next◌, factor_verdict}
+use Rattle.knots.specs.declared.Metric.{Metric}
 use Rattle.checks.specs.declared.Shape.{Shape}
 use Rattle.checks.specs.declared.GridRoom.{GridRoom}
 use Rattle.checks.specs.declared.SurfaceCall.{SurfaceCall}
 use Rattle.checks.specs.declared.SurfaceCall.TheVariants.{Approximate, ApproximateWithin}
 use Rattle.checks.specs.LadderChecks.{chosen_verdict, unchosen_verdict, coordinates_verdict}
 
--- a grid as it is handed in: its points, its rows, columns and degrees, and the spacing
+-- a grid as it is handed in: its points, its rows, columns and degrees, and how it is measured
 pub record Grid : Type 0 where
   pub points : List Float
   pub shape : Shape
-  pub spacing : Spacing
+  pub metric : Metric
 
 -- the lent slices of a grid call
 pub record GridLent : Type 0 where
@@ -29,14 +29,14 @@ pub record GridLent : Type 0 where
   pub work : List Float
   pub index : List ℕ
 
-abbrev pub grid_of : List Float → Shape → Spacing → Grid
-grid_of points shape spacing = record { points = points; shape = shape; spacing = spacing }
+abbrev pub grid_of : List Float → Shape → Metric → Grid
+grid_of points shape metric = record { points = points; shape = shape; metric = metric }
 
 abbrev pub grid_lent : List Float → List Float → List Float → List ℕ → List Float → List Float → List ℕ → List Float → List ℕ → GridLent
 grid_lent poles u_flat u_knots u_mults v_flat v_knots v_mults work index =
     record { poles = poles; u_flat = u_flat; u_knots = u_knots; u_mults = u_mults; v_flat = v_flat; v_knots = v_knots; v_mults = v_mults; work = work; index = index }
 
--- ---- the checks up to 10, which leave every slice as lent, in document 01's order: 8, 2 (u, then v), 1, 6 for length, 9, 10
+-- ---- the checks up to 10, which leave every slice as lent, in the documents' order: 8, 2 (u, then v), 1, 6 for length, 9, 17, 10
 
 -- 8, 2, 1, 6, by the number of the points' places
 unfoldable pub grid_shape_verdict : ℕ → Shape → Verdict
@@ -83,7 +83,7 @@ grid_room_verdict h r =
 
 -- one after the other
 unfoldable pub grid_checks : Grid → GridRoom → Verdict
-grid_checks g r = grid_shape_verdict (length g.points) g.shape next grid_room_verdict g.shape r next coordinates_verdict g.points
+grid_checks g r = grid_shape_verdict (length g.points) g.shape next grid_room_verdict g.shape r next factor_verdict g.metric.factor next coordinates_verdict g.points
 
 -- what they give
 pub record GridShaped (places : ℕ) (h : Shape) : Type 0 where

@@ -5,7 +5,8 @@ use Rattle.geometry.specs.Doubles.{at}
 use Rattle.bspline.specs.declared.Refusal.TheVariants.{TooFewPoints, InvalidDegree, DegreeTooHigh, TooManyPoles, NotTriples, TooLarge, BufferTooShort, CoordinateOutOfRange}
 use Rattle.bspline.specs.declared.Verdict.{Verdict}
 use Rattle.bspline.specs.declared.Verdict.TheVariants.{Pass, Stop}
-use Rattle.bspline.specs.Refusals.{stop_if, ◌next◌, outside}
+use Rattle.bspline.specs.Refusals.{stop_if, ◌next◌, outside, factor_verdict}
+use Rattle.knots.specs.declared.Metric.{Metric}
 use Rattle.checks.specs.declared.Room.{Room}
 use Rattle.checks.specs.declared.Aim.{Aim}
 use Rattle.checks.specs.declared.Aim.TheVariants.{Count, Within}
@@ -28,7 +29,7 @@ lent poles flat knots mults work index = record { poles = poles; flat = flat; kn
 abbrev pub point_count : List Float → ℕ
 point_count s = length s / 3
 
--- ---- the checks up to 10, which leave every slice as lent, in document 01's order: 7, 8, 1, 2, 3, 4, 9, 10
+-- ---- the checks up to 10, which leave every slice as lent, in the documents' order: 7, 8, 1, 2, 3, 4, 9, 17, 10
 
 -- 7, 8, 1, 2
 unfoldable pub shape_verdict : ℕ → ℕ → Verdict
@@ -74,9 +75,10 @@ unfoldable pub coordinates_verdict : List Float → Verdict
 coordinates_verdict s = stop_if (some_below (length s) (λ k. outside (at s k))) CoordinateOutOfRange
 
 -- one after the other
-unfoldable pub ladder_checks : Call → List Float → ℕ → Lent → Verdict
-ladder_checks call s degree l =
-    shape_verdict (length s) degree next count_verdict call (point_count s) degree next room_verdict (point_count s) degree (room_of l) next coordinates_verdict s
+unfoldable pub ladder_checks : Call → List Float → ℕ → Metric → Lent → Verdict
+ladder_checks call s degree v l =
+    shape_verdict (length s) degree next count_verdict call (point_count s) degree next room_verdict (point_count s) degree (room_of l)
+    next factor_verdict v.factor next coordinates_verdict s
 
 -- what they give: the shape of the points, and room for n points of degree p
 pub record Shaped (places p : ℕ) : Type 0 where

@@ -1,6 +1,6 @@
-// A grid's checks up to 10, in document 01's order: 8, 2 (u, then v), 1, 6 for the length, 9, 10; and 3 and 4, which come after 5. They touch no lent slice.
+// A grid's checks up to 10, in the documents' order: 8, 2 (u, then v), 1, 6 for the length, 9, 17, 10; and 3 and 4, which come after 5. They touch no lent slice.
 ghost use Rattle.std.specs.Prelude.{◌≡◌, ◌+◌, ◌≤◌, max, length};
-ghost use Rattle.bspline.specs.Refusals.{◌next◌};
+ghost use Rattle.bspline.specs.Refusals.{◌next◌, factor_verdict};
 ghost use Rattle.checks.specs.LadderChecks.{coordinates_verdict};
 ghost use Rattle.checks.specs.GridChecks.{work_length, index_length, grid_shape_verdict, grid_room_verdict, counts_verdict};
 
@@ -105,24 +105,24 @@ fn check_room(shape: Shape, room: GridRoom) -> Verdict
     Verdict::Pass
 }
 
-// 9 and 10.
-fn check_lent(points: &[f64], shape: Shape, room: GridRoom) -> Verdict
+// 9, 17 and 10.
+fn check_lent(points: &[f64], shape: Shape, room: GridRoom, factor: f64) -> Verdict
     requires { (shape.rows ≤ 64) × (shape.cols ≤ 64) × (shape.u ≤ 25) × (shape.v ≤ 25) }
-    ensures { result ≡ (grid_room_verdict shape room next coordinates_verdict points.now) }
+    ensures { result ≡ (grid_room_verdict shape room next factor_verdict factor next coordinates_verdict points.now) }
 {
     match check_room(shape, room) {
         Verdict::Stop(c) => Verdict::Stop(c),
-        Verdict::Pass => crate::ladder::check_coordinates(points),
+        Verdict::Pass => crate::ladder::check_given(points, factor),
     }
 }
 
 // All of them up to 10.
-pub fn check_grid(points: &[f64], shape: Shape, room: GridRoom) -> Verdict
-    ensures { result ≡ (grid_shape_verdict (length points.now) shape next grid_room_verdict shape room next coordinates_verdict points.now) }
+pub fn check_grid(points: &[f64], shape: Shape, room: GridRoom, factor: f64) -> Verdict
+    ensures { result ≡ (grid_shape_verdict (length points.now) shape next grid_room_verdict shape room next factor_verdict factor next coordinates_verdict points.now) }
 {
     match check_shape(points.len(), shape) {
         Verdict::Stop(c) => Verdict::Stop(c),
-        Verdict::Pass => check_lent(points, shape, room),
+        Verdict::Pass => check_lent(points, shape, room, factor),
     }
 }
 

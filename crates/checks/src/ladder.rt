@@ -1,6 +1,6 @@
-// A ladder's checks up to 10, in document 01's order: 7, 8, 1, 2, 3, 4, 9, 10. They touch no lent slice.
+// A ladder's checks up to 10, in the documents' order: 7, 8, 1, 2, 3, 4, 9, 17, 10. They touch no lent slice.
 ghost use Rattle.std.specs.Prelude.{◌≡◌, ◌-◌, ◌/◌, ◌≤◌, length};
-ghost use Rattle.bspline.specs.Refusals.{outside, ◌next◌};
+ghost use Rattle.bspline.specs.Refusals.{outside, ◌next◌, factor_verdict};
 ghost use Rattle.checks.specs.LadderChecks.{shape_verdict, chosen_verdict, unchosen_verdict, count_verdict, room_verdict, coordinates_verdict};
 
 use crate::{Call, Room};
@@ -110,7 +110,7 @@ fn is_outside(x: f64) -> bool
 }
 
 // 10.
-pub fn check_coordinates(points: &[f64]) -> Verdict
+fn check_coordinates(points: &[f64]) -> Verdict
     ensures { result ≡ coordinates_verdict points.now }
 {
     for k in 0..points.len() {
@@ -121,35 +121,51 @@ pub fn check_coordinates(points: &[f64]) -> Verdict
     Verdict::Pass
 }
 
-// 9 and 10.
-fn check_lent(points: &[f64], degree: usize, room: Room) -> Verdict
-    requires { (length points.now / 3 ≤ 1024) × (degree ≤ 25) }
-    ensures { result ≡ (room_verdict (length points.now / 3) degree room next coordinates_verdict points.now) }
+// 17 and 10.
+pub fn check_given(points: &[f64], factor: f64) -> Verdict
+    ensures { result ≡ (factor_verdict factor next coordinates_verdict points.now) }
 {
-    match check_room(points.len() / 3, degree, room) {
+    match bspline::check_factor(factor) {
         Verdict::Stop(c) => Verdict::Stop(c),
         Verdict::Pass => check_coordinates(points),
     }
 }
 
-// What 3 and 4 said, then 9 and 10.
-fn check_poles(points: &[f64], degree: usize, poles: Verdict, room: Room) -> Verdict
+// 9, 17 and 10.
+fn check_lent(points: &[f64], degree: usize, room: Room, factor: f64) -> Verdict
     requires { (length points.now / 3 ≤ 1024) × (degree ≤ 25) }
-    ensures { result ≡ (poles next room_verdict (length points.now / 3) degree room next coordinates_verdict points.now) }
+    ensures { result ≡ (room_verdict (length points.now / 3) degree room next factor_verdict factor next coordinates_verdict points.now) }
+{
+    match check_room(points.len() / 3, degree, room) {
+        Verdict::Stop(c) => Verdict::Stop(c),
+        Verdict::Pass => check_given(points, factor),
+    }
+}
+
+// What 3 and 4 said, then 9, 17 and 10.
+fn check_poles(points: &[f64], degree: usize, poles: Verdict, room: Room, factor: f64) -> Verdict
+    requires { (length points.now / 3 ≤ 1024) × (degree ≤ 25) }
+    ensures { result ≡ (poles next room_verdict (length points.now / 3) degree room next factor_verdict factor next coordinates_verdict points.now) }
 {
     match poles {
         Verdict::Stop(c) => Verdict::Stop(c),
-        Verdict::Pass => check_lent(points, degree, room),
+        Verdict::Pass => check_lent(points, degree, room, factor),
     }
 }
 
 // All of them, with what 3 and 4 said.
-pub fn check_ladder(points: &[f64], degree: usize, poles: Verdict, room: Room) -> Verdict
+pub fn check_ladder(
+    points: &[f64],
+    degree: usize,
+    poles: Verdict,
+    room: Room,
+    factor: f64,
+) -> Verdict
     ensures { result ≡ (shape_verdict (length points.now) degree next poles next room_verdict (length points.now / 3) degree room
-        next coordinates_verdict points.now) }
+        next factor_verdict factor next coordinates_verdict points.now) }
 {
     match check_shape(points.len(), degree) {
         Verdict::Stop(c) => Verdict::Stop(c),
-        Verdict::Pass => check_poles(points, degree, poles, room),
+        Verdict::Pass => check_poles(points, degree, poles, room, factor),
     }
 }

@@ -6,7 +6,7 @@ use Rattle.geometry.specs.Root.{sqrt_of}
 use Rattle.geometry.specs.Points.{point_at}
 use Rattle.bspline.specs.Basis.{basis_at}
 use Rattle.knots.specs.declared.Spacing.TheVariants.{Chordal, Centripetal}
-use Rattle.knots.specs.Parameters.{point_parameters}
+use Rattle.knots.specs.Parameters.{plain_metric, point_parameters}
 use Rattle.knots.specs.Knots.{averaged_knots, approximation_knots, distinct_knots, knot_at, multiplicity_at}
 use Rattle.search.specs.Search.{start, tried}
 use Rattle.examples.specs.Opened.{opened, bits, words}
@@ -25,9 +25,9 @@ averaged = words (0 ∷ 0 ∷ 0 ∷ 0x3fd8_0000_0000_0000 ∷ 0x3ff0_0000_0000_0
 
 pub record MCases : Type 0 where
   -- points 0, 1, 2, 4 on the first axis, chordal: parameters 0, 0.25, 0.5, 1
-  pub m1 : point_parameters Chordal 4 (point_at (on_axis (0 ∷ 0x3ff0_0000_0000_0000 ∷ 0x4000_0000_0000_0000 ∷ 0x4010_0000_0000_0000 ∷ []))) ≡ some quarters
+  pub m1 : point_parameters (plain_metric Chordal) 4 (point_at (on_axis (0 ∷ 0x3ff0_0000_0000_0000 ∷ 0x4000_0000_0000_0000 ∷ 0x4010_0000_0000_0000 ∷ []))) ≡ some quarters
   -- points 0, 1, 2, 6, centripetal: the same
-  pub m2 : point_parameters Centripetal 4 (point_at (on_axis (0 ∷ 0x3ff0_0000_0000_0000 ∷ 0x4000_0000_0000_0000 ∷ 0x4018_0000_0000_0000 ∷ []))) ≡ some quarters
+  pub m2 : point_parameters (plain_metric Centripetal) 4 (point_at (on_axis (0 ∷ 0x3ff0_0000_0000_0000 ∷ 0x4000_0000_0000_0000 ∷ 0x4018_0000_0000_0000 ∷ []))) ≡ some quarters
   -- those, degree 2, averaged: 0, 0, 0, 0.375, 1, 1, 1
   pub m3 : averaged_knots quarters 2 ≡ averaged
   -- that as knots 0, 0.375, 1 with 3, 1, 3

@@ -113,7 +113,7 @@ distances-kept j points w w' index index' e f has k x =
     cond_same (eqb j.given.kind 0) _ _ _
     (λ p. cond_same (eqb j.given.kind 1) _ _ _
     (λ q. let z = above-one j.given.kind p q in
-    ap (λ (v : BasisTable). λ (t : BasisTable) (m : ℕ) (poles : List Float). grid_distances t v j.given.lines (transposed j.given.lines m poles) points)
+    ap (λ (v : BasisTable). λ (t : BasisTable) (m : ℕ) (poles : List Float). grid_distances j.factor t v j.given.lines (transposed j.given.lines m poles) points)
     (other-same j points w w' index index' e f (has.other (omega (arith, has.given.kinds))) k x)))
 
 pub direction-kept : (j : Job) (points w w' : List Float) (index index' : List ℕ) (e f : ℕ) → HasJob j points w index → Kept j.flat e w w' → Kept j.table.firsts f index index'

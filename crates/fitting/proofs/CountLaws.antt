@@ -71,11 +71,11 @@ module _ (j : Job) (points : List Float) (tolerance : Float) (m : ℕ) (w w' : L
     table = table_on (direction_of j points w' index') (flat_region j l w')
 
     abbrev squares : List Float
-    squares = list_of (parameter_count table) (ladder_square table (poles_in j l w') points)
+    squares = list_of (parameter_count table) (ladder_square j.factor table (poles_in j l w') points)
 
     distances-rooted : (candidate_in j points l w' index').distances ≡ roots_of squares
     unfolding candidate_in candidate direction_of distances_by
-    distances-rooted = rw (eq-eqb _ _ z) (ladder-rooted _ _ points)
+    distances-rooted = rw (eq-eqb _ _ z) (ladder-rooted _ _ _ points)
 
     counted : parameter_count table ≡ j.table.count
     unfolding basis_table direction_of
@@ -85,7 +85,7 @@ module _ (j : Job) (points : List Float) (tolerance : Float) (m : ℕ) (w w' : L
         ∙ omega arith
 
     some_squares : 1 ≤ length squares
-    some_squares = omega (arith, length-list_of (parameter_count table) (ladder_square table (poles_in j l w') points), counted, has.under)
+    some_squares = omega (arith, length-list_of (parameter_count table) (ladder_square j.factor table (poles_in j l w') points), counted, has.under)
 
     pub tested-unread : (y.unreadable ≡ 0 → ⊥) → (b : Bool) → b ≡ eqb y.unreadable 0 → Tested j points tolerance m w w' index index' b
     unfolding within_by measured
@@ -102,7 +102,7 @@ module _ (j : Job) (points : List Float) (tolerance : Float) (m : ℕ) (w w' : L
         (rw (eq-eqb _ _ z)
         (p
         ∙ ap (λ (v : Measured). le v.largest tolerance) told
-        ∙ all-largest tolerance squares (ladder-held table (poles_in j l w') points _) some_squares none
+        ∙ all-largest tolerance squares (ladder-held j.factor table (poles_in j l w') points _) some_squares none
         ∙ ap (all_within tolerance) (sym distances-rooted)))
 
   pub tested_grid : (j.given.kind ≡ 0 → ⊥) → (y : Measured) → r ≡ Fitting y → (b : Bool) → b ≡ le y.largest tolerance → Tested j points tolerance m w w' index index' b

@@ -37,13 +37,13 @@ module _ (j : Job) (points w : List Float) (index : List ℕ) (has : HasJob j po
     ladder_requires = (subst (λ (n : ℕ). HasFit j.table n m j.poles j.deviations j.table.count w index) one measures-fit, (has.given.ladder e).1)
 
     abbrev ladder_ones : List Float
-    ladder_ones = ladder_distances (table_in j.table w index) (part j.poles (j.poles + 3 * m) w) points
+    ladder_ones = ladder_distances j.factor (table_in j.table w index) (part j.poles (j.poles + 3 * m) w) points
 
     ladder-distances : distances_in j points m w index ≡ ladder_ones
     unfolding direction_of distances_by
     ladder-distances =
         let z : 3 * (j.given.lines * m) ≡ 3 * m = rw one (omega arith) in
-        rw (eq-eqb _ _ e) (ap (λ (n : ℕ). ladder_distances (table_in j.table w index) (part j.poles (j.poles + n) w) points) z)
+        rw (eq-eqb _ _ e) (ap (λ (n : ℕ). ladder_distances j.factor (table_in j.table w index) (part j.poles (j.poles + n) w) points) z)
 
     pub measures-ladder : (w' : List Float) (r : Measured) → LeavesSquares j.table.count j.deviations j.deviations point_deviations ladder_ones w w' r → Measures j points m w w' index r
     unfolding direction_of deviations_by
@@ -59,7 +59,7 @@ module _ (j : Job) (points w : List Float) (index : List ℕ) (has : HasJob j po
     rows_requires = let d = has.given.rows e in (measures-fit, subst (λ (n : ℕ). 3 * (j.given.lines * n) ≤ length points) d.0 d.1)
 
     abbrev row_ones : List Float
-    row_ones = row_distances j.given.lines (table_in j.table w index) m placed points
+    row_ones = row_distances j.factor j.given.lines (table_in j.table w index) m placed points
 
     row-distances : distances_in j points m w index ≡ row_ones
     unfolding direction_of distances_by
@@ -97,12 +97,12 @@ module _ (j : Job) (points w : List Float) (index : List ℕ) (has : HasJob j po
           given = o.points_in;
         }
 
-    column-distances : distances_in j points m w index ≡ grid_distances_in j.table j.other j.given.lines m j.poles points w index
+    column-distances : distances_in j points m w index ≡ grid_distances_in j.factor j.table j.other j.given.lines m j.poles points w index
     unfolding direction_of distances_by
     column-distances = rw (ne_eqb j.given.kind 0 (λ z. omega arith), ne_eqb j.given.kind 1 (λ z. omega arith)) refl
 
     pub measures-columns : (w' : List Float) (r : Measured)
-        → LeavesSquares j.table.count j.curve j.deviations (largest_over_columns j.table.count j.other.count) (grid_distances_in j.table j.other j.given.lines m j.poles points w index) w w' r
+        → LeavesSquares j.table.count j.curve j.deviations (largest_over_columns j.table.count j.other.count) (grid_distances_in j.factor j.table j.other j.given.lines m j.poles points w index) w w' r
         → Measures j points m w w' index r
     unfolding direction_of deviations_by
     measures-columns w' r x = record {

@@ -31,17 +31,17 @@ pub record Lawful (d : Direction) : Type 0 where
   pub rises : (t u : Float) (ds : List Float) → le t u ≡ true → d.within t ds ≡ true → d.within u ds ≡ true
 
 -- the three kinds
-pub ladder_lawful : (s : List Float) (degree : ℕ) (params : List Float) → Lawful (ladder s degree params)
+pub ladder_lawful : (x : Float) (s : List Float) (degree : ℕ) (params : List Float) → Lawful (ladder x s degree params)
 unfolding ladder
-ladder_lawful s degree params = record { close = all_none; rises = all_mono }
+ladder_lawful x s degree params = record { close = all_none; rises = all_mono }
 
-pub rows_lawful : (s : List Float) (rows degree : ℕ) (params : List Float) → Lawful (grid_rows s rows degree params)
+pub rows_lawful : (x : Float) (s : List Float) (rows degree : ℕ) (params : List Float) → Lawful (grid_rows x s rows degree params)
 unfolding grid_rows
-rows_lawful s rows degree params = record { close = λ t ds h. (largest-none t ds h).1; rises = largest_mono }
+rows_lawful x s rows degree params = record { close = λ t ds h. (largest-none t ds h).1; rises = largest_mono }
 
-pub columns_lawful : (s : List Float) (v : BasisTable) (columns : ℕ) (row_poles : List Float) (degree : ℕ) (params : List Float) → Lawful (grid_columns s v columns row_poles degree params)
+pub columns_lawful : (x : Float) (s : List Float) (v : BasisTable) (columns : ℕ) (row_poles : List Float) (degree : ℕ) (params : List Float) → Lawful (grid_columns x s v columns row_poles degree params)
 unfolding grid_columns
-columns_lawful s v columns row_poles degree params = record { close = λ t ds h. (largest-none t ds h).1; rises = largest_mono }
+columns_lawful x s v columns row_poles degree params = record { close = λ t ds h. (largest-none t ds h).1; rises = largest_mono }
 
 -- ---- the marks are told apart
 abbrev mark_number : Marked → ℕ

@@ -24,9 +24,9 @@ use Rattle.fitting.specs.Within.{Candidate, Marked, spread, candidate, table_on,
 -- and the test of a fit on spread knots.
 unfoldable pub distances_by : Job → List Float → BasisTable → BasisTable → ℕ → List Float → List Float
 distances_by j points v =
-    cond (eqb j.given.kind 0) (λ (t : BasisTable) (m : ℕ) (poles : List Float). ladder_distances t poles points)
-    (cond (eqb j.given.kind 1) (λ (t : BasisTable) (m : ℕ) (poles : List Float). row_distances j.given.lines t m poles points)
-    (λ (t : BasisTable) (m : ℕ) (poles : List Float). grid_distances t v j.given.lines (transposed j.given.lines m poles) points))
+    cond (eqb j.given.kind 0) (λ (t : BasisTable) (m : ℕ) (poles : List Float). ladder_distances j.factor t poles points)
+    (cond (eqb j.given.kind 1) (λ (t : BasisTable) (m : ℕ) (poles : List Float). row_distances j.factor j.given.lines t m poles points)
+    (λ (t : BasisTable) (m : ℕ) (poles : List Float). grid_distances j.factor t v j.given.lines (transposed j.given.lines m poles) points))
 
 unfoldable pub deviations_by : Job → List Float → List Float
 deviations_by j =

@@ -17,14 +17,14 @@ fn measure(work: &mut [f64], index: &[usize], points: &[f64], job: Job, m: usize
     let poles = job.poles;
     let out = job.deviations;
     if given.kind == tables::LADDER {
-        return ladder_deviations(work, index, points, table, m, poles, out);
+        return ladder_deviations(work, index, points, job.factor, table, m, poles, out);
     }
     let lines = given.lines;
     if given.kind == tables::ROWS {
-        return row_deviations(work, index, points, table, lines, m, poles, out);
+        return row_deviations(work, index, points, job.factor, table, lines, m, poles, out);
     }
     grid_deviations(
-        work, index, points, table, job.other, lines, m, poles, job.curve, out,
+        work, index, points, job.factor, table, job.other, lines, m, poles, job.curve, out,
     )
 }
 

@@ -54,13 +54,14 @@ pub struct Fit {
     pub unreadable: usize,
 }
 
-// The fitting of one direction in the lent slices: its table and data, for columns the table of the other direction, and where the work holds its
-// parameters, its flat knots, the band, the poles, for columns a curve's poles, the deviations by their squares, and new knots.
+// The fitting of one direction in the lent slices: its table and data, for columns the table of the other direction, the lightness factor of its
+// distances, and where the work holds its parameters, its flat knots, the band, the poles, for columns a curve's poles, the deviations by their squares, and new knots.
 #[derive(Clone, Copy)]
 pub struct Job {
     pub table: Table,
     pub given: Data,
     pub other: Table,
+    pub factor: f64,
     pub params: usize,
     pub flat: usize,
     pub band: usize,

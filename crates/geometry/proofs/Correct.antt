@@ -15,7 +15,7 @@ use Rattle.geometry.proofs.Whole.{whole_root_is, Cmp, cmp}
 use Rattle.geometry.proofs.Patterns.{sqrt-at, to_bits_is, digits_of, root_lo, nearest_range, room_for, in_range, units-fits, squared_range}
 
 -- ---- what `fits` says of a finite value: its size is w * 2 ^ j units, for a w of at most 53 digits, and below the infinity's
-abbrev Form : Bool → ℕ → ℤ → Type 0
+abbrev pub Form : Bool → ℕ → ℤ → Type 0
 Form s m e = (w : ℕ) × (j : ℕ) × (in_units (fin s m e) ≡ w * 2 ^ j) × (w < 2 ^ 53) × (m * up e * 2 ^ 1074 ≡ in_units (fin s m e) * down e) × (in_units (fin s m e) < 2 ^ 2098)
 
 zero_form : (s : Bool) (e : ℤ) → Form s 0 e
@@ -56,7 +56,7 @@ count s m (negsuc a) w d t =
     of-count s m (negsuc a) j w t
     (ap (λ (x : ℕ). x * 2 ^ 1074) (mul-one m) ∙ ap (λ (x : ℕ). m * 2 ^ x) (sym (back (suc a) 1074 (pow_le_back (suc a) 1074 d))) ∙ ap (λ (x : ℕ). m * x) (pow-add 2 j (suc a)) ∙ sym (mul_assoc m (2 ^ j) (2 ^ suc a)))
 
-form : (s : Bool) (m : ℕ) (e : ℤ) → T (fits binary64 (fin s m e)) → Form s m e
+pub form : (s : Bool) (m : ℕ) (e : ℤ) → T (fits binary64 (fin s m e)) → Form s m e
 unfolding fits
 form s zero e h = zero_form s e
 form s (suc m) e h =

@@ -1,5 +1,5 @@
 -- Worked examples, by computation: roots at the ends of the range, and a distance. Assumes nothing.
-use Rattle.std.proofs.Common.{◌≡◌, true, false, pos, refl}
+use Rattle.std.proofs.Common.{◌≡◌, true, false, pos, negsuc, refl}
 use lib.Ieee.{nan, fin, add, sub, mul}
 use Rattle.geometry.specs.Root.{sqrt_of}
 use Rattle.geometry.specs.Points.{distance}
@@ -17,7 +17,11 @@ pub root_of-largest : sqrt_of (fin false 9007199254740991 (pos 971)) ≡ fin fal
 unfolding sqrt_of
 root_of-largest = refl
 
--- from (0, 0, 0) to (3, 4, 0)
-pub distance_three_four : distance (record { x = fin false 0 (pos 0); y = fin false 0 (pos 0); z = fin false 0 (pos 0) }) (record { x = fin false 3 (pos 0); y = fin false 1 (pos 2); z = fin false 0 (pos 0) }) ≡ fin false 5 (pos 0)
+-- from (0, 0, 0) to (3, 4, 0); and to (6, 4, 0) where the first coordinate counts half
+pub distance_three_four : distance (fin false 1 (pos 0)) (record { x = fin false 0 (pos 0); y = fin false 0 (pos 0); z = fin false 0 (pos 0) }) (record { x = fin false 3 (pos 0); y = fin false 1 (pos 2); z = fin false 0 (pos 0) }) ≡ fin false 5 (pos 0)
 unfolding distance sqrt_of add sub mul
 distance_three_four = refl
+
+pub distance-half_six_four : distance (fin false 1 (negsuc 0)) (record { x = fin false 0 (pos 0); y = fin false 0 (pos 0); z = fin false 0 (pos 0) }) (record { x = fin false 3 (pos 1); y = fin false 1 (pos 2); z = fin false 0 (pos 0) }) ≡ fin false 5 (pos 0)
+unfolding distance sqrt_of add sub mul
+distance-half_six_four = refl

@@ -3,6 +3,7 @@ pub mod DoubleLaws
 pub mod FloatOrder
 pub mod Folds
 pub mod PointLaws
+pub mod FactorLaws
 pub mod SortLaws
 pub mod Correct
 pub mod RootOrder

@@ -8,13 +8,13 @@ use Rattle.geometry.specs.Points.{squared_distance, distance, point_at, put_poin
 use Rattle.geometry.specs.Root.{sqrt_of}
 
 -- the distance is the root of its square, which is a sum and so fits
-pub distance_root : (p q : Point) → distance p q ≡ sqrt_of (squared_distance p q)
+pub distance_root : (f : Float) (p q : Point) → distance f p q ≡ sqrt_of (squared_distance f p q)
 unfolding distance
-distance_root p q = refl
+distance_root f p q = refl
 
-pub squared-fits : (p q : Point) → T (fits binary64 (squared_distance p q))
+pub squared-fits : (f : Float) (p q : Point) → T (fits binary64 (squared_distance f p q))
 unfolding squared_distance
-squared-fits p q = add-fits binary64 _ _
+squared-fits f p q = add-fits binary64 _ _
 
 pub length_put-point : (k : ℕ) (q : Point) (l : List Float) → length (put_point k q l) ≡ length l
 unfolding put_point

@@ -20,21 +20,21 @@ pub struct Point {
 }
 
 impl Point {
-    // The square of the distance to another point.
-    pub fn squared_distance(self, other: Point) -> f64
-        ensures { result ≡ squared_distance self other }
+    // The square of the distance to another point, with a lightness factor on the difference in x (document 02, request Five).
+    pub fn squared_distance(self, other: Point, factor: f64) -> f64
+        ensures { result ≡ squared_distance factor self other }
     {
-        let dx = other.x - self.x;
+        let dx = (other.x - self.x) * factor;
         let dy = other.y - self.y;
         let dz = other.z - self.z;
         dx * dx + dy * dy + dz * dz
     }
 
-    // The distance to another point.
-    pub fn distance(self, other: Point) -> f64
-        ensures { result ≡ distance self other }
+    // The distance to another point, with a lightness factor.
+    pub fn distance(self, other: Point, factor: f64) -> f64
+        ensures { result ≡ distance factor self other }
     {
-        root::sqrt(self.squared_distance(other))
+        root::sqrt(self.squared_distance(other, factor))
     }
 
     // self + a q.

@@ -14,7 +14,7 @@ use Rattle.bspline.specs.declared.Refusal.{Refusal}
 use Rattle.bspline.specs.declared.Refusal.TheVariants.{ConfusedPoints}
 use Rattle.bspline.specs.declared.Verdict.{Verdict}
 use Rattle.bspline.specs.declared.Verdict.TheVariants.{Pass, Stop}
-use Rattle.knots.specs.declared.Spacing.{Spacing}
+use Rattle.knots.specs.declared.Metric.{Metric}
 use Rattle.knots.specs.Parameters.{shared_parameters}
 use Rattle.knots.specs.Lines.{lines_of}
 use Rattle.knots.proofs.LineLaws.{rows_same, columns-same}
@@ -72,7 +72,7 @@ passed-given call points h work index s r c work' index' e f =
       counts = c;
     }
 
-module _ (call : SurfaceCall) (points w : List Float) (index : List ℕ) (h : Shape) {poles u_flat u_knots v_flat v_knots : List Float} {u_mults v_mults : List ℕ}
+module _ (factor : Float) (call : SurfaceCall) (points w : List Float) (index : List ℕ) (h : Shape) {poles u_flat u_knots v_flat v_knots : List Float} {u_mults v_mults : List ℕ}
     (p : Passed call points h (grid_lent poles u_flat u_knots u_mults v_flat v_knots v_mults w index)) where
   v-under : h.v < h.cols
   v-under = aim-under (row_aim call) h.cols h.v (aims_pass call h p.counts).1 p.shaped.v_low
@@ -80,11 +80,11 @@ module _ (call : SurfaceCall) (points w : List Float) (index : List ℕ) (h : Sh
   u-under : h.u < h.rows
   u-under = aim-under (column_aim call) h.rows h.u (aims_pass call h p.counts).0 p.shaped.u_low
 
-  pub rows_has : HasJob (rows_job h) points w index
-  rows_has = has-rows_job h points w index p.shaped p.room.for_work p.room.for_index v-under
+  pub rows_has : HasJob (rows_job factor h) points w index
+  rows_has = has-rows_job factor h points w index p.shaped p.room.for_work p.room.for_index v-under
 
-  pub rows_ready : HasJob (rows_job h) points w index × HasSaved (rows_job h) (behind (rows_job h)) w × (aim_verdict (row_aim call) h.cols h.v ≡ Pass)
-  rows_ready = (rows_has, has-rows_saved h points w index p.shaped p.room.for_work p.room.for_index, (aims_pass call h p.counts).1)
+  pub rows_ready : HasJob (rows_job factor h) points w index × HasSaved (rows_job factor h) (behind (rows_job factor h)) w × (aim_verdict (row_aim call) h.cols h.v ≡ Pass)
+  rows_ready = (rows_has, has-rows_saved factor h points w index p.shaped p.room.for_work p.room.for_index, (aims_pass call h p.counts).1)
 
   pub params_fit : h.rows + h.cols ≤ length w
   params_fit = omega (arith, rows_has.given.inside)
@@ -95,15 +95,15 @@ module _ (call : SurfaceCall) (points w : List Float) (index : List ℕ) (h : Sh
   passed_later w' index' e f = passed-given call points h w index p.shaped p.room p.counts w' index' e f
 
   -- the columns over the rows' fit x
-  module _ (x : Standing) (stood : StandsIn (rows_job h) points w index x) where
+  module _ (x : Standing) (stood : StandsIn (rows_job factor h) points w index x) where
     abbrev rj : Job
-    rj = rows_job h
+    rj = rows_job factor h
 
     abbrev n : ℕ
     n = count_of rj x
 
     pub n-few : n ≤ 64
-    n-few = omega (arith, n-most h points w index rows_has x stood.few, p.shaped.cols_most)
+    n-few = omega (arith, n-most factor h points w index rows_has x stood.few, p.shaped.cols_most)
 
     pub filling : FillsTable rj.table rj.flat (rj.flat + x.flat) rj.params w index
     filling = fills rj points w index rows_has x.flat stood.few
@@ -113,46 +113,46 @@ module _ (call : SurfaceCall) (points w : List Float) (index : List ℕ) (h : Sh
         (f : w₂ ≡ splice rj.table.values (rj.table.values + h.cols * (h.v + 1)) (basis_table (part rj.flat (rj.flat + x.flat) w) h.v (v_params_in h w)).values w)
         (same_index : length index₂ ≡ length index) where
       pub same-work : length w₂ ≡ length w
-      same-work = still-long h points w index rows_has x stood.few w₂ index₂ e f
+      same-work = still-long factor h points w index rows_has x stood.few w₂ index₂ e f
 
       abbrev few : n ≤ h.cols
-      few = n-most h points w index rows_has x stood.few
+      few = n-most factor h points w index rows_has x stood.few
 
-      columns_has : HasJob (columns_job h n) points w₂ index₂
+      columns_has : HasJob (columns_job factor h n) points w₂ index₂
       columns_has =
-          has-columns_job h points w₂ index₂ p.shaped (omega (arith, p.room.for_work, same-work)) (omega (arith, p.room.for_index, same_index)) n few u-under
-          (n-least h points w index rows_has x stood.few) (has_other h points w index rows_has x stood.few w₂ index₂ e f (omega (arith, p.shaped.whole)))
+          has-columns_job factor h points w₂ index₂ p.shaped (omega (arith, p.room.for_work, same-work)) (omega (arith, p.room.for_index, same_index)) n few u-under
+          (n-least factor h points w index rows_has x stood.few) (has_other factor h points w index rows_has x stood.few w₂ index₂ e f (omega (arith, p.shaped.whole)))
 
-      pub columns_ready : HasJob (columns_job h n) points w₂ index₂ × HasSaved (columns_job h n) (behind (columns_job h n)) w₂ × (aim_verdict (column_aim call) h.rows h.u ≡ Pass)
+      pub columns_ready : HasJob (columns_job factor h n) points w₂ index₂ × HasSaved (columns_job factor h n) (behind (columns_job factor h n)) w₂ × (aim_verdict (column_aim call) h.rows h.u ≡ Pass)
       columns_ready = (
         columns_has,
-        has-columns_saved h points w₂ index₂ p.shaped (omega (arith, p.room.for_work, same-work)) (omega (arith, p.room.for_index, same_index)) n few,
+        has-columns_saved factor h points w₂ index₂ p.shaped (omega (arith, p.room.for_work, same-work)) (omega (arith, p.room.for_index, same_index)) n few,
         (aims_pass call h p.counts).0,
       )
 
-      module _ {w₃ : List Float} {index₃ : List ℕ} {r : Made} (made : Makes (columns_job h n) points (fit_to (column_aim call) (direction_of (columns_job h n) points w₂ index₂)) w₂ w₃ index₂ index₃ r) where
-        columns_made : fit_to (column_aim call) (along_u points h (u_params_in h w) (v_params_in h w) (unmarked (rows_in h points w index x))) ≡ made_in r (standing_in (columns_job h n) points w₃ index₃)
-        columns_made = sym (ap (fit_to (column_aim call)) (columns_direction h points w index rows_has x stood.few w₂ index₂ e f params_fit)) ∙ made.answer
+      module _ {w₃ : List Float} {index₃ : List ℕ} {r : Made} (made : Makes (columns_job factor h n) points (fit_to (column_aim call) (direction_of (columns_job factor h n) points w₂ index₂)) w₂ w₃ index₂ index₃ r) where
+        columns_made : fit_to (column_aim call) (along_u factor points h (u_params_in h w) (v_params_in h w) (unmarked (rows_in factor h points w index x))) ≡ made_in r (standing_in (columns_job factor h n) points w₃ index₃)
+        columns_made = sym (ap (fit_to (column_aim call)) (columns_direction factor h points w index rows_has x stood.few w₂ index₂ e f params_fit)) ∙ made.answer
 
-        pub columns_fail : (c : Refusal) → r ≡ Fails c → columns_over call h points w index x ≡ grid_refused c
+        pub columns_fail : (c : Refusal) → r ≡ Fails c → columns_over factor call h points w index x ≡ grid_refused c
         unfolding made_in beside_rows
-        columns_fail c z = ap (beside_rows (rows_in h points w index x)) (columns_made ∙ ap (λ (a : Made). made_in a (standing_in (columns_job h n) points w₃ index₃)) z)
+        columns_fail c z = ap (beside_rows (rows_in factor h points w index x)) (columns_made ∙ ap (λ (a : Made). made_in a (standing_in (columns_job factor h n) points w₃ index₃)) z)
 
         module _ (y : Standing) (told : r ≡ Stands y) where
-          over : StandsIn (columns_job h n) points w₃ index₃ y
+          over : StandsIn (columns_job factor h n) points w₃ index₃ y
           over = made.standing y told
 
-          columns_still : HasJob (columns_job h n) points w₃ index₃
+          columns_still : HasJob (columns_job factor h n) points w₃ index₃
           columns_still =
-              has_job-kept (columns_job h n) points w₂ w₃ index₂ index₃ (length w₂) (h.cols + h.rows) columns_has made.kept made.firsts
+              has_job-kept (columns_job factor h n) points w₂ w₃ index₂ index₃ (length w₂) (h.cols + h.rows) columns_has made.kept made.firsts
 
-          fewer : n * count_of (columns_job h n) y ≤ n * h.rows
-          fewer = mul-le-mul {n₁ = n} {m₁ = count_of (columns_job h n) y} {n₂ = n} {m₂ = h.rows} (omega arith) (omega (arith, over.few.most))
+          fewer : n * count_of (columns_job factor h n) y ≤ n * h.rows
+          fewer = mul-le-mul {n₁ = n} {m₁ = count_of (columns_job factor h n) y} {n₂ = n} {m₂ = h.rows} (omega arith) (omega (arith, over.few.most))
 
           fewer-columns : n * h.rows ≤ h.cols * h.rows
           fewer-columns = mul-le-mul {n₁ = n} {m₁ = h.rows} {n₂ = h.cols} {m₂ = h.rows} few (omega arith)
 
-          pub both_ready : HasBoth rj x (columns_job h n) y w₃ poles u_flat u_knots u_mults v_flat v_knots v_mults
+          pub both_ready : HasBoth rj x (columns_job factor h n) y w₃ poles u_flat u_knots u_mults v_flat v_knots v_mults
           both_ready =
               let k = over.few in
               let m = stood.few in
@@ -186,19 +186,19 @@ module _ (call : SurfaceCall) (points w : List Float) (index : List ℕ) (h : Sh
           knots_still =
               let m = stood.few in
               let z : count_of rj x + h.v + 1 ≤ h.cols + h.v + 1 = omega (arith, few) in
-              kept-part (columns_job h n).flat (length w₂) w₂ w₃ made.kept rj.flat (rj.flat + (count_of rj x + h.v + 1)) (omega arith) (omega (arith, z))
+              kept-part (columns_job factor h n).flat (length w₂) w₂ w₃ made.kept rj.flat (rj.flat + (count_of rj x + h.v + 1)) (omega arith) (omega (arith, z))
               ∙ kept-part rj.table.values (rj.table.values + h.cols * (h.v + 1)) w w₂ (kept_filled rj points w index rows_has x.flat m w₂ index₂ e f)
               rj.flat (rj.flat + (count_of rj x + h.v + 1)) (omega arith) (omega (arith, z))
 
           pub columns_hand : {poles' uFlat' uKnots' vFlat' vKnots' : List Float} {uMults' vMults' : List ℕ} {a : GridAnswer}
-              → HandsBoth rj x (columns_job h n) y w₃ poles poles' u_flat uFlat' u_knots uKnots' u_mults uMults' v_flat vFlat' v_knots vKnots' v_mults vMults' a
-              → HandsOutGrid h (columns_over call h points w index x) (grid_lent poles u_flat u_knots u_mults v_flat v_knots v_mults w index)
+              → HandsBoth rj x (columns_job factor h n) y w₃ poles poles' u_flat uFlat' u_knots uKnots' u_mults uMults' v_flat vFlat' v_knots vKnots' v_mults vMults' a
+              → HandsOutGrid h (columns_over factor call h points w index x) (grid_lent poles u_flat u_knots u_mults v_flat v_knots v_mults w index)
               (grid_lent poles' uFlat' uKnots' uMults' vFlat' vKnots' vMults' w₃ index₃) a
           unfolding made_in beside_rows
           columns_hand out =
-              grid-same h (columns_over call h points w index x)
-              (ap (beside_rows (rows_in h points w index x)) (columns_made ∙ ap (λ (b : Made). made_in b (standing_in (columns_job h n) points w₃ index₃)) told))
-              (hands_grid h points w index x rows_has stood w₃ index₃ n refl y columns_still over knots_still out w w₃ index index₃)
+              grid-same h (columns_over factor call h points w index x)
+              (ap (beside_rows (rows_in factor h points w index x)) (columns_made ∙ ap (λ (b : Made). made_in b (standing_in (columns_job factor h n) points w₃ index₃)) told))
+              (hands_grid factor h points w index x rows_has stood w₃ index₃ n refl y columns_still over knots_still out w w₃ index index₃)
 
 -- ---- with the parameters, or 5; then 3 and 4
 
@@ -220,7 +220,7 @@ module _ (h : Shape) (w ys : List Float) (long : length ys ≡ length w - h.rows
       ∙ sym (take-take h.cols (length w - h.rows) (drop h.rows put) (omega arith))
       ∙ ap (take h.cols) (part-splice h.rows (length w) ys w (omega arith) (omega arith) long))
 
-module _ (call : SurfaceCall) (points : List Float) (h : Shape) (v : Spacing) where
+module _ (call : SurfaceCall) (points : List Float) (h : Shape) (v : Metric) where
   abbrev g : Grid
   g = grid_of points h v
 
@@ -260,7 +260,7 @@ module _ (call : SurfaceCall) (points : List Float) (h : Shape) (v : Spacing) wh
       unfolding grid_checked
       counts_stop c e = given_both ∙ ap (λ (a : Verdict). grid_checked a (fit_grid_by call g us vs)) e
 
-      pub counts_pass : (w : List Float) → counts_verdict call h ≡ Pass → us ≡ u_params_in h w → vs ≡ v_params_in h w → grid_fit call g ≡ rows_result call h points w
+      pub counts_pass : (w : List Float) → counts_verdict call h ≡ Pass → us ≡ u_params_in h w → vs ≡ v_params_in h w → grid_fit call g ≡ rows_result v.factor call h points w
       unfolding grid_checked fit_grid_by
       counts_pass w e a b =
           given_both

@@ -42,17 +42,17 @@ use Rattle.grids.proofs.SurfaceLaws.{length-transposed}
 
 -- ---- room
 
-module _ (h : Shape) (points work : List Float) (index : List ℕ) (s : GridShaped (length points) h) (roomy : work_length h ≤ length work) (firsts : index_length h ≤ length index) where
+module _ (factor : Float) (h : Shape) (points work : List Float) (index : List ℕ) (s : GridShaped (length points) h) (roomy : work_length h ≤ length work) (firsts : index_length h ≤ length index) where
   v-places : h.v * h.cols ≤ max h.u h.v * max h.rows h.cols
   v-places = mul-le-mul {n₁ = h.v} {m₁ = h.cols} {n₂ = max h.u h.v} {m₂ = max h.rows h.cols} (omega arith) (omega arith)
 
   u-places : h.u * h.rows ≤ max h.u h.v * max h.rows h.cols
   u-places = mul-le-mul {n₁ = h.u} {m₁ = h.rows} {n₂ = max h.u h.v} {m₂ = max h.rows h.cols} (omega arith) (omega arith)
 
-  rows_end : behind (rows_job h) + (h.cols + h.v + 1) + 3 * (h.rows * h.cols) ≤ length work
+  rows_end : behind (rows_job factor h) + (h.cols + h.v + 1) + 3 * (h.rows * h.cols) ≤ length work
   rows_end = omega (arith, v-places, roomy, s.v_high)
 
-  pub has-rows_job : h.v < h.cols → HasJob (rows_job h) points work index
+  pub has-rows_job : h.v < h.cols → HasJob (rows_job factor h) points work index
   has-rows_job under = record {
     low = s.v_low;
     high = s.v_high;
@@ -80,7 +80,7 @@ module _ (h : Shape) (points work : List Float) (index : List ℕ) (s : GridShap
     firsts_in = omega (arith, firsts);
   }
 
-  pub has-rows_saved : HasSaved (rows_job h) (behind (rows_job h)) work
+  pub has-rows_saved : HasSaved (rows_job factor h) (behind (rows_job factor h)) work
   has-rows_saved = record { knots_inside = omega arith; poles_inside = omega arith; behind = omega arith; room = rows_end }
 
   -- with so many columns of row poles
@@ -88,13 +88,13 @@ module _ (h : Shape) (points work : List Float) (index : List ℕ) (s : GridShap
     fewer : n * h.rows ≤ h.rows * h.cols
     fewer = let z : n * h.rows ≤ h.cols * h.rows = mul-le-mul {n₁ = n} {m₁ = h.rows} {n₂ = h.cols} {m₂ = h.rows} most (omega arith) in omega arith
 
-    pub columns_end : behind (columns_job h n) + (h.rows + h.u + 1) + 3 * (n * h.rows) ≤ length work
+    pub columns_end : behind (columns_job factor h n) + (h.rows + h.u + 1) + 3 * (n * h.rows) ≤ length work
     columns_end = omega (arith, u-places, v-places, fewer, most, roomy, s.u_high, s.v_high)
 
-    pub has-columns_saved : HasSaved (columns_job h n) (behind (columns_job h n)) work
+    pub has-columns_saved : HasSaved (columns_job factor h n) (behind (columns_job factor h n)) work
     has-columns_saved = record { knots_inside = omega arith; poles_inside = omega arith; behind = omega arith; room = columns_end }
 
-    pub has-columns_job : h.u < h.rows → 1 ≤ n → HasOther (columns_job h n) points work index → HasJob (columns_job h n) points work index
+    pub has-columns_job : h.u < h.rows → 1 ≤ n → HasOther (columns_job factor h n) points work index → HasJob (columns_job factor h n) points work index
     has-columns_job under least other = record {
       low = s.u_low;
       high = s.u_high;
@@ -124,28 +124,28 @@ module _ (h : Shape) (points work : List Float) (index : List ℕ) (s : GridShap
 
 -- ---- the rows
 
-abbrev rows_with : Shape → List Float → List Float → ℕ → Direction
-rows_with h points params n =
+abbrev rows_with : Float → Shape → List Float → List Float → ℕ → Direction
+rows_with factor h points params n =
     record {
       degree = h.v;
       params = params;
       lines = h.rows;
       point = row_point points n;
-      distances = λ t m poles. row_distances h.rows t m poles points;
+      distances = λ t m poles. row_distances factor h.rows t m poles points;
       deviations = λ ds. list_of n (λ j. largest (list_of h.rows (λ i. at ds (i * n + j))));
       within = largest_within;
     }
 
-module _ (h : Shape) (points w : List Float) (index : List ℕ) (long : h.rows + h.cols ≤ length w) where
+module _ (factor : Float) (h : Shape) (points w : List Float) (index : List ℕ) (long : h.rows + h.cols ≤ length w) where
   pub v-long : length (v_params_in h w) ≡ h.cols
   v-long = length_part h.rows (h.rows + h.cols) w long ∙ omega arith
 
   pub u-long : length (u_params_in h w) ≡ h.rows
   u-long = length_part 0 (0 + h.rows) w (omega arith) ∙ omega arith
 
-  pub rows_direction : direction_of (rows_job h) points w index ≡ along_v points h (v_params_in h w)
+  pub rows_direction : direction_of (rows_job factor h) points w index ≡ along_v factor points h (v_params_in h w)
   unfolding direction_of distances_by deviations_by within_by data_point along_v grid_rows
-  rows_direction = ap (rows_with h points (v_params_in h w)) (sym v-long)
+  rows_direction = ap (rows_with factor h points (v_params_in h w)) (sym v-long)
 
 -- what a change behind the parameters leaves
 module _ (h : Shape) (w w' : List Float) (e : ℕ) (k : Kept (h.rows + h.cols) e w w') where
@@ -175,49 +175,49 @@ module _ (h : Shape) {poles u_flat u_knots v_flat v_knots : List Float} {u_mults
 
 -- ---- after the rows
 
-module _ (call : SurfaceCall) (h : Shape) (points w : List Float) (index : List ℕ) (long : h.rows + h.cols ≤ length w) {w₁ : List Float} {index₁ : List ℕ} {r : Made}
-    (made : Makes (rows_job h) points (fit_to (row_aim call) (direction_of (rows_job h) points w index)) w w₁ index index₁ r) where
-  rows_made : fit_to (row_aim call) (along_v points h (v_params_in h w)) ≡ made_in r (standing_in (rows_job h) points w₁ index₁)
-  rows_made = sym (ap (fit_to (row_aim call)) (rows_direction h points w index long)) ∙ made.answer
+module _ (factor : Float) (call : SurfaceCall) (h : Shape) (points w : List Float) (index : List ℕ) (long : h.rows + h.cols ≤ length w) {w₁ : List Float} {index₁ : List ℕ} {r : Made}
+    (made : Makes (rows_job factor h) points (fit_to (row_aim call) (direction_of (rows_job factor h) points w index)) w w₁ index index₁ r) where
+  rows_made : fit_to (row_aim call) (along_v factor points h (v_params_in h w)) ≡ made_in r (standing_in (rows_job factor h) points w₁ index₁)
+  rows_made = sym (ap (fit_to (row_aim call)) (rows_direction factor h points w index long)) ∙ made.answer
 
   abbrev next : List Float → Marked → Result
-  next v m = fit_to (column_aim call) (along_u points h (u_params_in h v) (v_params_in h v) (unmarked m))
+  next v m = fit_to (column_aim call) (along_u factor points h (u_params_in h v) (v_params_in h v) (unmarked m))
 
-  pub rows_fail : (c : Refusal) → r ≡ Fails c → rows_result call h points w ≡ grid_refused c
+  pub rows_fail : (c : Refusal) → r ≡ Fails c → rows_result factor call h points w ≡ grid_refused c
   unfolding made_in after_rows
-  rows_fail c e = ap (λ (v : Result). after_rows v (next w)) (rows_made ∙ ap (λ (x : Made). made_in x (standing_in (rows_job h) points w₁ index₁)) e)
+  rows_fail c e = ap (λ (v : Result). after_rows v (next w)) (rows_made ∙ ap (λ (x : Made). made_in x (standing_in (rows_job factor h) points w₁ index₁)) e)
 
-  pub rows_stand : (x : Standing) → r ≡ Stands x → rows_result call h points w ≡ columns_over call h points w₁ index₁ x
+  pub rows_stand : (x : Standing) → r ≡ Stands x → rows_result factor call h points w ≡ columns_over factor call h points w₁ index₁ x
   unfolding made_in after_rows
   rows_stand x e =
-      let v : Marked = rows_in h points w₁ index₁ x in
-      ap (λ (y : Result). after_rows y (next w)) (rows_made ∙ ap (λ (y : Made). made_in y (standing_in (rows_job h) points w₁ index₁)) e)
-      ∙ ap (λ (us : List Float). beside_rows v (fit_to (column_aim call) (along_u points h us (v_params_in h w) (unmarked v)))) (sym (u-kept h w w₁ (length w) made.kept))
-      ∙ ap (λ (vs : List Float). beside_rows v (fit_to (column_aim call) (along_u points h (u_params_in h w₁) vs (unmarked v)))) (sym (v-kept h w w₁ (length w) made.kept))
+      let v : Marked = rows_in factor h points w₁ index₁ x in
+      ap (λ (y : Result). after_rows y (next w)) (rows_made ∙ ap (λ (y : Made). made_in y (standing_in (rows_job factor h) points w₁ index₁)) e)
+      ∙ ap (λ (us : List Float). beside_rows v (fit_to (column_aim call) (along_u factor points h us (v_params_in h w) (unmarked v)))) (sym (u-kept h w w₁ (length w) made.kept))
+      ∙ ap (λ (vs : List Float). beside_rows v (fit_to (column_aim call) (along_u factor points h (u_params_in h w₁) vs (unmarked v)))) (sym (v-kept h w w₁ (length w) made.kept))
 
 -- ---- the columns
 
-abbrev columns_with : Shape → List Float → BasisTable → ℕ → List Float → List Float → ℕ → ℕ → Direction
-columns_with h points v n row_poles params rows cols =
+abbrev columns_with : Float → Shape → List Float → BasisTable → ℕ → List Float → List Float → ℕ → ℕ → Direction
+columns_with factor h points v n row_poles params rows cols =
     record {
       degree = h.u;
       params = params;
       lines = n;
       point = column_point row_poles n;
-      distances = λ t m poles. grid_distances t v n (transposed n m poles) points;
+      distances = λ t m poles. grid_distances factor t v n (transposed n m poles) points;
       deviations = λ ds. list_of rows (λ i. largest (list_of cols (λ j. at ds (i * cols + j))));
       within = largest_within;
     }
 
-module _ (h : Shape) (points w : List Float) (index : List ℕ) (has : HasJob (rows_job h) points w index) (x : Standing) (knots : HasKnots (rows_job h) x.flat) where
+module _ (factor : Float) (h : Shape) (points w : List Float) (index : List ℕ) (has : HasJob (rows_job factor h) points w index) (x : Standing) (knots : HasKnots (rows_job factor h) x.flat) where
   abbrev rj : Job
-  rj = rows_job h
+  rj = rows_job factor h
 
   abbrev n : ℕ
   n = count_of rj x
 
   abbrev row_fit : Marked
-  row_fit = rows_in h points w index x
+  row_fit = rows_in factor h points w index x
 
   v_is : unmarked row_fit ≡ candidate_in rj points x.flat w index
   unfolding standing_in
@@ -254,7 +254,7 @@ module _ (h : Shape) (points w : List Float) (index : List ℕ) (has : HasJob (r
     unfolding direction_of
     table_there = table_is rj points w index has x.flat knots w₂ index₂ e f ∙ ap (λ (l : List Float). basis_table l h.v (v_params_in h w)) (sym v-flat)
 
-    pub has_other : 3 * (h.rows * h.cols) ≤ length points → HasOther (columns_job h n) points w₂ index₂
+    pub has_other : 3 * (h.rows * h.cols) ≤ length points → HasOther (columns_job factor h n) points w₂ index₂
     has_other given = record {
       table = has-table rj points w index has x.flat knots w₂ index₂ e f;
       values_in = omega arith;
@@ -263,22 +263,22 @@ module _ (h : Shape) (points w : List Float) (index : List ℕ) (has : HasJob (r
       behind = refl;
     }
 
-    pub columns_direction : h.rows + h.cols ≤ length w → direction_of (columns_job h n) points w₂ index₂ ≡ along_u points h (u_params_in h w) (v_params_in h w) (unmarked row_fit)
+    pub columns_direction : h.rows + h.cols ≤ length w → direction_of (columns_job factor h n) points w₂ index₂ ≡ along_u factor points h (u_params_in h w) (v_params_in h w) (unmarked row_fit)
     unfolding direction_of distances_by deviations_by within_by data_point along_u grid_columns poles_in basis_table
     columns_direction long =
         let T = basis_table (unmarked row_fit).flat h.v (v_params_in h w) in
-        let rows_is : length (u_params_in h w) ≡ h.rows = u-long h points w index long in
-        let cols-is : parameter_count T ≡ h.cols = length-list_of _ _ ∙ v-long h points w index long in
+        let rows_is : length (u_params_in h w) ≡ h.rows = u-long factor h points w index long in
+        let cols-is : parameter_count T ≡ h.cols = length-list_of _ _ ∙ v-long factor h points w index long in
         let here : part 0 (0 + h.rows) w₂ ≡ u_params_in h w =
         kept-part rj.table.values (rj.table.values + h.cols * (h.v + 1)) w w₂ filled 0 (0 + h.rows) (omega arith) (omega arith) in
         let poles-is : part rj.poles (rj.poles + 3 * (h.rows * n)) w₂ ≡ (unmarked row_fit).poles =
         kept-behind rj.table.values (rj.table.values + h.cols * (h.v + 1)) w w₂ filled rj.poles (rj.poles + 3 * (h.rows * n)) (omega arith) ∙ sym v-poles in
-        ap (λ (v : BasisTable). columns_with h points v n (part rj.poles (rj.poles + 3 * (h.rows * n)) w₂) (part 0 (0 + h.rows) w₂) h.rows h.cols) table_there
-        ∙ ap (λ (ps : List Float). columns_with h points T n ps (part 0 (0 + h.rows) w₂) h.rows h.cols) poles-is
-        ∙ ap (λ (us : List Float). columns_with h points T n (unmarked row_fit).poles us h.rows h.cols) here
-        ∙ ap (λ (k : ℕ). columns_with h points T n (unmarked row_fit).poles (u_params_in h w) k h.cols) (sym rows_is)
-        ∙ ap (λ (k : ℕ). columns_with h points T n (unmarked row_fit).poles (u_params_in h w) (length (u_params_in h w)) k) (sym cols-is)
-        ∙ ap (λ (k : ℕ). columns_with h points T k (unmarked row_fit).poles (u_params_in h w) (length (u_params_in h w)) (parameter_count T)) (sym v_count)
+        ap (λ (v : BasisTable). columns_with factor h points v n (part rj.poles (rj.poles + 3 * (h.rows * n)) w₂) (part 0 (0 + h.rows) w₂) h.rows h.cols) table_there
+        ∙ ap (λ (ps : List Float). columns_with factor h points T n ps (part 0 (0 + h.rows) w₂) h.rows h.cols) poles-is
+        ∙ ap (λ (us : List Float). columns_with factor h points T n (unmarked row_fit).poles us h.rows h.cols) here
+        ∙ ap (λ (k : ℕ). columns_with factor h points T n (unmarked row_fit).poles (u_params_in h w) k h.cols) (sym rows_is)
+        ∙ ap (λ (k : ℕ). columns_with factor h points T n (unmarked row_fit).poles (u_params_in h w) (length (u_params_in h w)) k) (sym cols-is)
+        ∙ ap (λ (k : ℕ). columns_with factor h points T k (unmarked row_fit).poles (u_params_in h w) (length (u_params_in h w)) (parameter_count T)) (sym v_count)
 
 -- ---- handing out
 
@@ -320,51 +320,51 @@ module _ (j : Job) (points w : List Float) (index : List ℕ) (has : HasJob j po
 fits-same : (a a' b b' : Fit) → a ≡ a' → b ≡ b' → ◌≡◌ {A = GridFit} (record { u = a; v = b }) (record { u = a'; v = b' })
 fits-same a a' b b' e f = rw (e, f)
 
-module _ (h : Shape) (points w : List Float) (index : List ℕ) (x : Standing) (rows_has : HasJob (rows_job h) points w index) (stood : StandsIn (rows_job h) points w index x)
-    (w₃ : List Float) (index₃ : List ℕ) (n : ℕ) (n-is : n ≡ count_of (rows_job h) x) (y : Standing) (columns_has : HasJob (columns_job h n) points w₃ index₃)
-    (over : StandsIn (columns_job h n) points w₃ index₃ y) (same : knots_of (rows_job h) x w₃ ≡ knots_of (rows_job h) x w) where
+module _ (factor : Float) (h : Shape) (points w : List Float) (index : List ℕ) (x : Standing) (rows_has : HasJob (rows_job factor h) points w index) (stood : StandsIn (rows_job factor h) points w index x)
+    (w₃ : List Float) (index₃ : List ℕ) (n : ℕ) (n-is : n ≡ count_of (rows_job factor h) x) (y : Standing) (columns_has : HasJob (columns_job factor h n) points w₃ index₃)
+    (over : StandsIn (columns_job factor h n) points w₃ index₃ y) (same : knots_of (rows_job factor h) x w₃ ≡ knots_of (rows_job factor h) x w) where
   abbrev u : Marked
-  u = standing_in (columns_job h n) points w₃ index₃ y
+  u = standing_in (columns_job factor h n) points w₃ index₃ y
 
   abbrev v : Marked
-  v = rows_in h points w index x
+  v = rows_in factor h points w index x
 
-  v-knots_are : knots_of (rows_job h) x w₃ ≡ (unmarked v).flat
-  v-knots_are = same ∙ knots_are (rows_job h) points w index rows_has x stood ∙ sym (standing-flat (rows_job h) points w index rows_has x stood)
+  v-knots_are : knots_of (rows_job factor h) x w₃ ≡ (unmarked v).flat
+  v-knots_are = same ∙ knots_are (rows_job factor h) points w index rows_has x stood ∙ sym (standing-flat (rows_job factor h) points w index rows_has x stood)
 
-  u-knots_are : knots_of (columns_job h n) y w₃ ≡ (unmarked u).flat
-  u-knots_are = knots_are (columns_job h n) points w₃ index₃ columns_has y over ∙ sym (standing-flat (columns_job h n) points w₃ index₃ columns_has y over)
+  u-knots_are : knots_of (columns_job factor h n) y w₃ ≡ (unmarked u).flat
+  u-knots_are = knots_are (columns_job factor h n) points w₃ index₃ columns_has y over ∙ sym (standing-flat (columns_job factor h n) points w₃ index₃ columns_has y over)
 
-  surface_is : transposed (count_of (rows_job h) x) (count_of (columns_job h n) y)
-      (part (columns_job h n).poles ((columns_job h n).poles + pole_places (rows_job h) x (columns_job h n) y) w₃) ≡ surface_poles h (unmarked u) (unmarked v)
+  surface_is : transposed (count_of (rows_job factor h) x) (count_of (columns_job factor h n) y)
+      (part (columns_job factor h n).poles ((columns_job factor h n).poles + pole_places (rows_job factor h) x (columns_job factor h n) y) w₃) ≡ surface_poles h (unmarked u) (unmarked v)
   unfolding surface_poles poles_in
   surface_is =
-      let a = count_of (rows_job h) x in
-      let m = count_of (columns_job h n) y in
-      ap (λ (k : ℕ). transposed a m (part (columns_job h n).poles ((columns_job h n).poles + 3 * (k * m)) w₃)) (sym n-is)
-      ∙ ap (transposed a m) (sym (standing-poles (columns_job h n) points w₃ index₃ columns_has y over))
-      ∙ ap (λ (k : ℕ). transposed k m (unmarked u).poles) (sym (standing-count (rows_job h) points w index rows_has x stood))
-      ∙ ap (λ (k : ℕ). transposed (pole_count h.v (unmarked v).flat) k (unmarked u).poles) (sym (standing-count (columns_job h n) points w₃ index₃ columns_has y over))
+      let a = count_of (rows_job factor h) x in
+      let m = count_of (columns_job factor h n) y in
+      ap (λ (k : ℕ). transposed a m (part (columns_job factor h n).poles ((columns_job factor h n).poles + 3 * (k * m)) w₃)) (sym n-is)
+      ∙ ap (transposed a m) (sym (standing-poles (columns_job factor h n) points w₃ index₃ columns_has y over))
+      ∙ ap (λ (k : ℕ). transposed k m (unmarked u).poles) (sym (standing-count (rows_job factor h) points w index rows_has x stood))
+      ∙ ap (λ (k : ℕ). transposed (pole_count h.v (unmarked v).flat) k (unmarked u).poles) (sym (standing-count (columns_job factor h n) points w₃ index₃ columns_has y over))
 
-  places_are : pole_places (rows_job h) x (columns_job h n) y ≡ length (surface_poles h (unmarked u) (unmarked v))
+  places_are : pole_places (rows_job factor h) x (columns_job factor h n) y ≡ length (surface_poles h (unmarked u) (unmarked v))
   places_are =
-      sym (length-transposed (count_of (rows_job h) x) (count_of (columns_job h n) y) (part (columns_job h n).poles ((columns_job h n).poles + pole_places (rows_job h) x (columns_job h n) y) w₃))
+      sym (length-transposed (count_of (rows_job factor h) x) (count_of (columns_job factor h n) y) (part (columns_job factor h n).poles ((columns_job factor h n).poles + pole_places (rows_job factor h) x (columns_job factor h n) y) w₃))
       ∙ ap length surface_is
 
   pub hands_grid : {poles poles' u_flat uFlat' u_knots uKnots' v_flat vFlat' v_knots vKnots' : List Float} {u_mults uMults' v_mults vMults' : List ℕ} {r : GridAnswer}
-      → HandsBoth (rows_job h) x (columns_job h n) y w₃ poles poles' u_flat uFlat' u_knots uKnots' u_mults uMults' v_flat vFlat' v_knots vKnots' v_mults vMults' r
+      → HandsBoth (rows_job factor h) x (columns_job factor h n) y w₃ poles poles' u_flat uFlat' u_knots uKnots' u_mults uMults' v_flat vFlat' v_knots vKnots' v_mults vMults' r
       → (work work' : List Float) (i i' : List ℕ)
       → HandsOutGrid h (grid_accepted u v) (grid_lent poles u_flat u_knots u_mults v_flat v_knots v_mults work i) (grid_lent poles' uFlat' uKnots' uMults' vFlat' vKnots' vMults' work' i') r
   unfolding grid_answer_of grid_handed
   hands_grid {poles} {poles'} {u_flat} {uFlat'} {u_knots} {uKnots'} {v_flat} {vFlat'} {v_knots} {vKnots'} {u_mults} {uMults'} {v_mults} {vMults'} {r} out work work' i i' =
-      let s : List Float = transposed (count_of (rows_job h) x) (count_of (columns_job h n) y)
-      (part (columns_job h n).poles ((columns_job h n).poles + pole_places (rows_job h) x (columns_job h n) y) w₃) in
+      let s : List Float = transposed (count_of (rows_job factor h) x) (count_of (columns_job factor h n) y)
+      (part (columns_job factor h n).poles ((columns_job factor h n).poles + pole_places (rows_job factor h) x (columns_job factor h n) y) w₃) in
       record {
         answer =
             out.answer
             ∙ ap Fitted
-            (fits-same (direction_fit (columns_job h n) y w₃) (fit_of h.u u) (direction_fit (rows_job h) x w₃) (fit_of h.v v)
-            (fit_is (columns_job h n) points w₃ index₃ columns_has y over w₃ refl) (fit_is (rows_job h) points w index rows_has x stood w₃ same));
+            (fits-same (direction_fit (columns_job factor h n) y w₃) (fit_of h.u u) (direction_fit (rows_job factor h) x w₃) (fit_of h.v v)
+            (fit_is (columns_job factor h n) points w₃ index₃ columns_has y over w₃ refl) (fit_is (rows_job factor h) points w index rows_has x stood w₃ same));
         poles =
             out.surface
             ∙ ap (λ (k : ℕ). laid 0 k (at s) poles) places_are

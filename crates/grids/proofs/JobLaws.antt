@@ -20,23 +20,23 @@ pub band-few : (degree count : ℕ) → degree ≤ 25 → count ≤ 64 → degre
 band-few degree count h k = mul-le-mul {n₁ = degree} {m₁ = count} {n₂ = 25} {m₂ = 64} h k
 
 -- where the rows' poles begin and end
-pub rows-poles-few : (h : Shape) → h.rows ≤ 64 → h.cols ≤ 64 → h.v ≤ 25 → (rows_job h).poles ≤ 5082
-rows-poles-few h r s v =
+pub rows-poles-few : (f : Float) (h : Shape) → h.rows ≤ 64 → h.cols ≤ 64 → h.v ≤ 25 → (rows_job f h).poles ≤ 5082
+rows-poles-few f h r s v =
     let a = values-few h.cols h.v s v in
     let b = band-few h.v h.cols v s in
     omega (arith, a, b)
 
-pub rows_curve-few : (h : Shape) → h.rows ≤ 64 → h.cols ≤ 64 → h.v ≤ 25 → (rows_job h).curve ≤ 17370
-rows_curve-few h r s v =
-    let a = rows-poles-few h r s v in
+pub rows_curve-few : (f : Float) (h : Shape) → h.rows ≤ 64 → h.cols ≤ 64 → h.v ≤ 25 → (rows_job f h).curve ≤ 17370
+rows_curve-few f h r s v =
+    let a = rows-poles-few f h r s v in
     let b = points-few h.rows h.cols r s in
     omega (arith, a, b)
 
-pub job-poles-few : (h : Shape) (rows : Job) → rows ≡ rows_job h → h.rows ≤ 64 → h.cols ≤ 64 → h.v ≤ 25 → rows.poles ≤ 5082
-job-poles-few h rows e r s v = subst (λ (j : Job). j.poles ≤ 5082) (sym e) (rows-poles-few h r s v)
+pub job-poles-few : (f : Float) (h : Shape) (rows : Job) → rows ≡ rows_job f h → h.rows ≤ 64 → h.cols ≤ 64 → h.v ≤ 25 → rows.poles ≤ 5082
+job-poles-few f h rows e r s v = subst (λ (j : Job). j.poles ≤ 5082) (sym e) (rows-poles-few f h r s v)
 
-pub job_curve-few : (h : Shape) (rows : Job) → rows ≡ rows_job h → h.rows ≤ 64 → h.cols ≤ 64 → h.v ≤ 25 → rows.curve ≤ 17370
-job_curve-few h rows e r s v = subst (λ (j : Job). j.curve ≤ 17370) (sym e) (rows_curve-few h r s v)
+pub job_curve-few : (f : Float) (h : Shape) (rows : Job) → rows ≡ rows_job f h → h.rows ≤ 64 → h.cols ≤ 64 → h.v ≤ 25 → rows.curve ≤ 17370
+job_curve-few f h rows e r s v = subst (λ (j : Job). j.curve ≤ 17370) (sym e) (rows_curve-few f h r s v)
 
 -- knots handed out with the number of distinct ones
 pub handed_counted : (fs flat flat' knots knots' : List Float) (mults mults' : List ℕ) (r : ℕ)

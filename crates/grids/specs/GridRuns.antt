@@ -22,8 +22,8 @@ use Rattle.grids.specs.Grids.{GridResult, row_aim, column_aim, beside_rows, afte
 use Rattle.checks.specs.GridChecks.{GridLent, GridShaped, GridRoomy, grid_room_of, counts_verdict}
 
 -- The rows' regions: u's parameters, v's parameters, and then the rest one after the other.
-abbrev pub rows_job : Shape → Job
-rows_job h =
+abbrev pub rows_job : Float → Shape → Job
+rows_job f h =
     let flat = h.rows + h.cols in
     let values = flat + (h.cols + h.v + 1) in
     let band = values + h.cols * (h.v + 1) in
@@ -33,6 +33,7 @@ rows_job h =
       table = record { degree = h.v; count = h.cols; firsts = 0; values = values };
       given = record { kind = 1; lines = h.rows; across = h.cols; start = 0; end = 0 };
       other = record { degree = 0; count = 0; firsts = 0; values = 0 };
+      factor = f;
       params = h.rows;
       flat = flat;
       band = band;
@@ -43,10 +44,10 @@ rows_job h =
     }
 
 -- The columns' regions, for so many columns of row poles: behind the rows' poles, which are the data.
-abbrev pub columns_job : Shape → ℕ → Job
-columns_job h columns =
-    let start = (rows_job h).poles in
-    let flat = (rows_job h).curve in
+abbrev pub columns_job : Float → Shape → ℕ → Job
+columns_job f h columns =
+    let start = (rows_job f h).poles in
+    let flat = (rows_job f h).curve in
     let values = flat + (h.rows + h.u + 1) in
     let band = values + h.rows * (h.u + 1) in
     let poles = band + 2 * (h.u * h.rows) in
@@ -55,7 +56,8 @@ columns_job h columns =
     record {
       table = record { degree = h.u; count = h.rows; firsts = h.cols; values = values };
       given = record { kind = 2; lines = columns; across = columns; start = start; end = start + 3 * (h.rows * columns) };
-      other = (rows_job h).table;
+      other = (rows_job f h).table;
+      factor = f;
       params = 0;
       flat = flat;
       band = band;
@@ -77,19 +79,19 @@ abbrev pub v_params_in : Shape → List Float → List Float
 v_params_in h work = part h.rows (h.rows + h.cols) work
 
 -- the rows' fit that stands in the work, and the columns' over it
-abbrev pub rows_in : Shape → List Float → List Float → List ℕ → Standing → Marked
-rows_in h points work index x = standing_in (rows_job h) points work index x
+abbrev pub rows_in : Float → Shape → List Float → List Float → List ℕ → Standing → Marked
+rows_in f h points work index x = standing_in (rows_job f h) points work index x
 
-abbrev pub columns_over : SurfaceCall → Shape → List Float → List Float → List ℕ → Standing → GridResult
-columns_over call h points work index x =
-    let v = rows_in h points work index x in
-    beside_rows v (fit_to (column_aim call) (along_u points h (u_params_in h work) (v_params_in h work) (unmarked v)))
+abbrev pub columns_over : Float → SurfaceCall → Shape → List Float → List Float → List ℕ → Standing → GridResult
+columns_over f call h points work index x =
+    let v = rows_in f h points work index x in
+    beside_rows v (fit_to (column_aim call) (along_u f points h (u_params_in h work) (v_params_in h work) (unmarked v)))
 
 -- the rows' fit and the columns' over it
-abbrev pub rows_result : SurfaceCall → Shape → List Float → List Float → GridResult
-rows_result call h points work =
-    after_rows (fit_to (row_aim call) (along_v points h (v_params_in h work)))
-    (λ v. fit_to (column_aim call) (along_u points h (u_params_in h work) (v_params_in h work) (unmarked v)))
+abbrev pub rows_result : Float → SurfaceCall → Shape → List Float → List Float → GridResult
+rows_result f call h points work =
+    after_rows (fit_to (row_aim call) (along_v f points h (v_params_in h work)))
+    (λ v. fit_to (column_aim call) (along_u f points h (u_params_in h work) (v_params_in h work) (unmarked v)))
 
 -- what the checks gave
 pub record Passed (call : SurfaceCall) (points : List Float) (h : Shape) (l : GridLent) : Type 0 where

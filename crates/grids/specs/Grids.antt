@@ -40,18 +40,18 @@ pub data GridResult : Type 0 where
 
 -- along u the columns are the lines of points, along v the rows
 abbrev pub u_parameters : Grid → Option (List Float)
-u_parameters g = shared_parameters g.spacing g.shape.cols g.shape.rows (column_point g.points g.shape.cols)
+u_parameters g = shared_parameters g.metric g.shape.cols g.shape.rows (column_point g.points g.shape.cols)
 
 abbrev pub v_parameters : Grid → Option (List Float)
-v_parameters g = shared_parameters g.spacing g.shape.rows g.shape.cols (row_point g.points g.shape.cols)
+v_parameters g = shared_parameters g.metric g.shape.rows g.shape.cols (row_point g.points g.shape.cols)
 
 -- the rows, along v; and along u, over the fit of the rows
-unfoldable pub along_v : List Float → Shape → List Float → Direction
-along_v s h v_params = grid_rows s h.rows h.v v_params
+unfoldable pub along_v : Float → List Float → Shape → List Float → Direction
+along_v f s h v_params = grid_rows f s h.rows h.v v_params
 
-unfoldable pub along_u : List Float → Shape → List Float → List Float → Candidate → Direction
-along_u s h u_params v_params v =
-    grid_columns s (basis_table v.flat h.v v_params) (pole_count h.v v.flat) v.poles h.u u_params
+unfoldable pub along_u : Float → List Float → Shape → List Float → List Float → Candidate → Direction
+along_u f s h u_params v_params v =
+    grid_columns f s (basis_table v.flat h.v v_params) (pole_count h.v v.flat) v.poles h.u u_params
 
 -- the rows are fitted within 0.8 of a tolerance
 abbrev pub row_share : Float
@@ -78,12 +78,12 @@ after_rows (accepted v) next = beside_rows v (next v)
 -- the two calls, on a grid with its parameters along u and along v: the rows along v, then the columns of the row poles along u
 unfoldable pub fit_grid_by : SurfaceCall → Grid → List Float → List Float → GridResult
 fit_grid_by call g u_params v_params =
-    after_rows (fit_to (row_aim call) (along_v g.points g.shape v_params))
-    (λ v. fit_to (column_aim call) (along_u g.points g.shape u_params v_params (unmarked v)))
+    after_rows (fit_to (row_aim call) (along_v g.metric.factor g.points g.shape v_params))
+    (λ v. fit_to (column_aim call) (along_u g.metric.factor g.points g.shape u_params v_params (unmarked v)))
 
 -- the rows' fit within a tolerance
 unfoldable pub rows_within : Grid → Float → List Float → Marked
-rows_within g t v_params = fit_within_fewest (along_v g.points g.shape v_params) (row_share ⊗ t)
+rows_within g t v_params = fit_within_fewest (along_v g.metric.factor g.points g.shape v_params) (row_share ⊗ t)
 
 -- checks, and then the rest
 unfoldable pub grid_checked : Verdict → GridResult → GridResult
@@ -157,7 +157,7 @@ module _ (g : Grid) (t : Float) where
 
   abbrev pub grid_handed_distances : GridFit → GridLent → List Float
   grid_handed_distances f l =
-      grid_distances
+      grid_distances g.metric.factor
       (basis_table (take (f.u.poles + g.shape.u + 1) l.u_flat) g.shape.u u_params)
       (basis_table (take (f.v.poles + g.shape.v + 1) l.v_flat) g.shape.v v_params)
       f.v.poles
@@ -165,7 +165,7 @@ module _ (g : Grid) (t : Float) where
       g.points
 
   abbrev pub u_direction : Direction
-  u_direction = along_u g.points g.shape u_params v_params (unmarked (rows_within g t v_params))
+  u_direction = along_u g.metric.factor g.points g.shape u_params v_params (unmarked (rows_within g t v_params))
 
   pub record GridKept (l' : GridLent) (r : GridAnswer) : Type 0 where
     pub refined_within : (f : GridFit) (x : Float) → r ≡ Fitted f → f.u.mark ≡ Refined x → NoneAbove t (grid_handed_distances f l')

@@ -9,7 +9,7 @@ use crate::GridAnswer;
 use bspline::{Refusal, Verdict};
 use checks::{Shape, SurfaceCall};
 use fitting::Job;
-use knots::Spacing;
+use knots::Metric;
 use making::{Made, Standing};
 
 // The columns' fit over the rows' fit x, which stands in the work.
@@ -29,9 +29,9 @@ fn fit_columns(
     work: &mut [f64],
     index: &mut [usize],
 ) -> GridAnswer
-    requires { Passed call points.now shape (grid_lent poles.old uflat.old uknots.old umults.old vflat.old vknots.old vmults.old work.old index.old) × (rows ≡ rows_job shape)
-        × StandsIn (rows_job shape) points.now work.old index.old x }
-    ensures { HandsOutGrid shape (columns_over call shape points.now work.old index.old x)
+    requires { Passed call points.now shape (grid_lent poles.old uflat.old uknots.old umults.old vflat.old vknots.old vmults.old work.old index.old) × (rows ≡ rows_job rows.factor shape)
+        × StandsIn (rows_job rows.factor shape) points.now work.old index.old x }
+    ensures { HandsOutGrid shape (columns_over rows.factor call shape points.now work.old index.old x)
         (grid_lent poles.old uflat.old uknots.old umults.old vflat.old vknots.old vmults.old work.old index.old)
         (grid_lent poles.new uflat.new uknots.new umults.new vflat.new vknots.new vmults.new work.new index.new) result }
 {
@@ -58,6 +58,7 @@ fn fit_columns(
 fn fit_rows(
     points: &[f64],
     shape: Shape,
+    factor: f64,
     call: SurfaceCall,
     poles: &mut [f64],
     uflat: &mut [f64],
@@ -70,11 +71,11 @@ fn fit_rows(
     index: &mut [usize],
 ) -> GridAnswer
     requires { Passed call points.now shape (grid_lent poles.old uflat.old uknots.old umults.old vflat.old vknots.old vmults.old work.old index.old) }
-    ensures { HandsOutGrid shape (rows_result call shape points.now work.old)
+    ensures { HandsOutGrid shape (rows_result factor call shape points.now work.old)
         (grid_lent poles.old uflat.old uknots.old umults.old vflat.old vknots.old vmults.old work.old index.old)
         (grid_lent poles.new uflat.new uknots.new umults.new vflat.new vknots.new vmults.new work.new index.new) result }
 {
-    let rows = crate::jobs::rows_job(shape);
+    let rows = crate::jobs::rows_job(shape, factor);
     let saved = rows.fresh + shape.cols;
     match making::make_direction(work, index, points, rows, crate::jobs::row_aim(call), saved) {
         Made::Fails(c) => GridAnswer::Refused(c),
@@ -89,7 +90,7 @@ fn fit_rows(
 pub fn fit_passed(
     points: &[f64],
     shape: Shape,
-    spacing: Spacing,
+    metric: Metric,
     call: SurfaceCall,
     poles: &mut [f64],
     uflat: &mut [f64],
@@ -102,13 +103,13 @@ pub fn fit_passed(
     index: &mut [usize],
 ) -> GridAnswer
     requires { GridShaped (length points.now) shape × GridRoomy shape (grid_room_of (grid_lent poles.old uflat.old uknots.old umults.old vflat.old vknots.old vmults.old work.old index.old)) }
-    ensures { HandsOutGrid shape (grid_fit call (grid_of points.now shape spacing))
+    ensures { HandsOutGrid shape (grid_fit call (grid_of points.now shape metric))
         (grid_lent poles.old uflat.old uknots.old umults.old vflat.old vknots.old vmults.old work.old index.old)
         (grid_lent poles.new uflat.new uknots.new umults.new vflat.new vknots.new vmults.new work.new index.new) result }
 {
     let rows = shape.rows;
     let cols = shape.cols;
-    if !knots::parameters::shared_parameters(points, cols, 1, rows, cols, spacing, work) {
+    if !knots::parameters::shared_parameters(points, cols, 1, rows, cols, metric, work) {
         return GridAnswer::Refused(Refusal::ConfusedPoints);
     }
     if !knots::parameters::shared_parameters(
@@ -117,7 +118,7 @@ pub fn fit_passed(
         cols,
         cols,
         1,
-        spacing,
+        metric,
         &mut work[rows..],
     ) {
         return GridAnswer::Refused(Refusal::ConfusedPoints);
@@ -125,7 +126,19 @@ pub fn fit_passed(
     match checks::grid::check_counts(call, shape) {
         Verdict::Stop(c) => GridAnswer::Refused(c),
         Verdict::Pass => fit_rows(
-            points, shape, call, poles, uflat, uknots, umults, vflat, vknots, vmults, work, index,
+            points,
+            shape,
+            metric.factor,
+            call,
+            poles,
+            uflat,
+            uknots,
+            umults,
+            vflat,
+            vknots,
+            vmults,
+            work,
+            index,
         ),
     }
 }

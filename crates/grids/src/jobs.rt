@@ -28,15 +28,16 @@ pub fn column_aim(call: SurfaceCall) -> Aim
 }
 
 // The rows' regions.
-pub fn rows_job(shape: Shape) -> Job
+pub fn rows_job(shape: Shape, factor: f64) -> Job
     requires { (shape.rows ≤ 64) × (shape.cols ≤ 64) × (shape.v ≤ 25) }
-    ensures { result ≡ rows_job shape }
+    ensures { result ≡ rows_job factor shape }
 {
     let flat = shape.rows + shape.cols;
     let values = flat + (shape.cols + shape.v + 1);
     let band = values + shape.cols * (shape.v + 1);
     let poles = band + 2 * (shape.v * shape.cols);
     let deviations = poles + 3 * (shape.rows * shape.cols);
+    let fresh = deviations + shape.cols;
     Job {
         table: Table {
             degree: shape.v,
@@ -57,20 +58,21 @@ pub fn rows_job(shape: Shape) -> Job
             firsts: 0,
             values: 0,
         },
+        factor,
         params: shape.rows,
         flat,
         band,
         poles,
         curve: deviations,
         deviations,
-        fresh: deviations + shape.cols,
+        fresh,
     }
 }
 
 // The columns' regions behind the rows', whose poles are `columns` in each row.
 pub fn columns_job(shape: Shape, rows: Job, columns: usize) -> Job
-    requires { (rows ≡ rows_job shape) × (shape.rows ≤ 64) × (shape.cols ≤ 64) × (shape.u ≤ 25) × (shape.v ≤ 25) × (columns ≤ 64) }
-    ensures { result ≡ columns_job shape columns }
+    requires { (rows ≡ rows_job rows.factor shape) × (shape.rows ≤ 64) × (shape.cols ≤ 64) × (shape.u ≤ 25) × (shape.v ≤ 25) × (columns ≤ 64) }
+    ensures { result ≡ columns_job rows.factor shape columns }
 {
     let other = rows.table;
     let flat = rows.curve;
@@ -79,6 +81,8 @@ pub fn columns_job(shape: Shape, rows: Job, columns: usize) -> Job
     let poles = band + 2 * (shape.u * shape.rows);
     let curve = poles + 3 * (columns * shape.rows);
     let deviations = curve + 3 * columns;
+    let end = rows.poles + 3 * (shape.rows * columns);
+    let fresh = deviations + shape.rows;
     Job {
         table: Table {
             degree: shape.u,
@@ -91,15 +95,16 @@ pub fn columns_job(shape: Shape, rows: Job, columns: usize) -> Job
             lines: columns,
             across: columns,
             start: rows.poles,
-            end: rows.poles + 3 * (shape.rows * columns),
+            end,
         },
         other,
+        factor: rows.factor,
         params: 0,
         flat,
         band,
         poles,
         curve,
         deviations,
-        fresh: deviations + shape.rows,
+        fresh,
     }
 }

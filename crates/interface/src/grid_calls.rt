@@ -1,11 +1,11 @@
 // The grid calls.
 ghost use Rattle.checks.specs.declared.SurfaceCall.TheVariants.{Approximate};
 ghost use Rattle.checks.specs.GridChecks.{grid_of, grid_lent};
-ghost use Rattle.knots.specs.Parameters.{spacing_of};
+ghost use Rattle.knots.specs.Parameters.{metric_of};
 ghost use Rattle.telling.specs.ToldGrid.{shape_of, ToldGrid, ToldGridWithin};
 
 use checks::{Shape, SurfaceCall};
-use knots::spacing_of;
+use knots::metric_of;
 use telling::grid::call_grid;
 
 // Least squares with chosen pole counts along u and v.
@@ -19,6 +19,7 @@ pub extern "C" fn nigorzai_approximate_grid(
     ucount: usize,
     vcount: usize,
     spacing: usize,
+    factor: f64,
     poles: &mut [f64],
     uflat: &mut [f64],
     uknots: &mut [f64],
@@ -31,7 +32,7 @@ pub extern "C" fn nigorzai_approximate_grid(
     largest: &mut [f64],
     counts: &mut [usize],
 ) -> u32
-    ensures { ToldGrid (Approximate ucount vcount) (grid_of points.now (shape_of rows cols udegree vdegree) (spacing_of spacing))
+    ensures { ToldGrid (Approximate ucount vcount) (grid_of points.now (shape_of rows cols udegree vdegree) (metric_of spacing factor))
         (grid_lent poles.old uflat.old uknots.old umults.old vflat.old vknots.old vmults.old work.old index.old)
         (grid_lent poles.new uflat.new uknots.new umults.new vflat.new vknots.new vmults.new work.new index.new)
         largest.old largest.new counts.old counts.new result }
@@ -46,7 +47,7 @@ pub extern "C" fn nigorzai_approximate_grid(
     call_grid(
         points,
         shape,
-        spacing_of(spacing),
+        metric_of(spacing, factor),
         call,
         poles,
         uflat,
@@ -72,6 +73,7 @@ pub extern "C" fn nigorzai_approximate_grid_within(
     vdegree: usize,
     tolerance: f64,
     spacing: usize,
+    factor: f64,
     poles: &mut [f64],
     uflat: &mut [f64],
     uknots: &mut [f64],
@@ -84,7 +86,7 @@ pub extern "C" fn nigorzai_approximate_grid_within(
     largest: &mut [f64],
     counts: &mut [usize],
 ) -> u32
-    ensures { ToldGridWithin (grid_of points.now (shape_of rows cols udegree vdegree) (spacing_of spacing)) tolerance
+    ensures { ToldGridWithin (grid_of points.now (shape_of rows cols udegree vdegree) (metric_of spacing factor)) tolerance
         (grid_lent poles.old uflat.old uknots.old umults.old vflat.old vknots.old vmults.old work.old index.old)
         (grid_lent poles.new uflat.new uknots.new umults.new vflat.new vknots.new vmults.new work.new index.new)
         largest.old largest.new counts.old counts.new result }
@@ -99,7 +101,7 @@ pub extern "C" fn nigorzai_approximate_grid_within(
     call_grid(
         points,
         shape,
-        spacing_of(spacing),
+        metric_of(spacing, factor),
         call,
         poles,
         uflat,

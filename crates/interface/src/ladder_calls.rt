@@ -1,11 +1,11 @@
 // The ladder calls.
 ghost use Rattle.checks.specs.declared.Call.TheVariants.{Interpolate, Approximate};
 ghost use Rattle.checks.specs.LadderChecks.{lent};
-ghost use Rattle.knots.specs.Parameters.{spacing_of};
+ghost use Rattle.knots.specs.Parameters.{metric_of};
 ghost use Rattle.telling.specs.Told.{Told, ToldWithin, ToldSpread};
 
 use checks::Call;
-use knots::spacing_of;
+use knots::metric_of;
 use telling::ladder::call_ladder;
 
 // The curve through the points, with as many poles.
@@ -14,6 +14,7 @@ pub extern "C" fn nigorzai_interpolate(
     points: &[f64],
     degree: usize,
     spacing: usize,
+    factor: f64,
     poles: &mut [f64],
     flat: &mut [f64],
     knots: &mut [f64],
@@ -23,7 +24,7 @@ pub extern "C" fn nigorzai_interpolate(
     largest: &mut [f64],
     counts: &mut [usize],
 ) -> u32
-    ensures { Told Interpolate points.now degree (spacing_of spacing)
+    ensures { Told Interpolate points.now degree (metric_of spacing factor)
         (lent poles.old flat.old knots.old mults.old work.old index.old)
         (lent poles.new flat.new knots.new mults.new work.new index.new)
         largest.old largest.new counts.old counts.new result }
@@ -32,7 +33,7 @@ pub extern "C" fn nigorzai_interpolate(
     call_ladder(
         points,
         degree,
-        spacing_of(spacing),
+        metric_of(spacing, factor),
         call,
         poles,
         flat,
@@ -52,6 +53,7 @@ pub extern "C" fn nigorzai_approximate(
     degree: usize,
     count: usize,
     spacing: usize,
+    factor: f64,
     poles: &mut [f64],
     flat: &mut [f64],
     knots: &mut [f64],
@@ -61,7 +63,7 @@ pub extern "C" fn nigorzai_approximate(
     largest: &mut [f64],
     counts: &mut [usize],
 ) -> u32
-    ensures { Told (Approximate count) points.now degree (spacing_of spacing)
+    ensures { Told (Approximate count) points.now degree (metric_of spacing factor)
         (lent poles.old flat.old knots.old mults.old work.old index.old)
         (lent poles.new flat.new knots.new mults.new work.new index.new)
         largest.old largest.new counts.old counts.new result }
@@ -70,7 +72,7 @@ pub extern "C" fn nigorzai_approximate(
     call_ladder(
         points,
         degree,
-        spacing_of(spacing),
+        metric_of(spacing, factor),
         call,
         poles,
         flat,
@@ -90,6 +92,7 @@ pub extern "C" fn nigorzai_approximate_within(
     degree: usize,
     tolerance: f64,
     spacing: usize,
+    factor: f64,
     poles: &mut [f64],
     flat: &mut [f64],
     knots: &mut [f64],
@@ -99,7 +102,7 @@ pub extern "C" fn nigorzai_approximate_within(
     largest: &mut [f64],
     counts: &mut [usize],
 ) -> u32
-    ensures { ToldWithin points.now degree tolerance (spacing_of spacing)
+    ensures { ToldWithin points.now degree tolerance (metric_of spacing factor)
         (lent poles.old flat.old knots.old mults.old work.old index.old)
         (lent poles.new flat.new knots.new mults.new work.new index.new)
         largest.old largest.new counts.old counts.new result }
@@ -108,7 +111,7 @@ pub extern "C" fn nigorzai_approximate_within(
     call_ladder(
         points,
         degree,
-        spacing_of(spacing),
+        metric_of(spacing, factor),
         call,
         poles,
         flat,
@@ -128,6 +131,7 @@ pub extern "C" fn nigorzai_search_spread(
     degree: usize,
     tolerance: f64,
     spacing: usize,
+    factor: f64,
     poles: &mut [f64],
     flat: &mut [f64],
     knots: &mut [f64],
@@ -137,7 +141,7 @@ pub extern "C" fn nigorzai_search_spread(
     largest: &mut [f64],
     counts: &mut [usize],
 ) -> u32
-    ensures { ToldSpread points.now degree tolerance (spacing_of spacing)
+    ensures { ToldSpread points.now degree tolerance (metric_of spacing factor)
         (lent poles.old flat.old knots.old mults.old work.old index.old)
         (lent poles.new flat.new knots.new mults.new work.new index.new)
         largest.old largest.new counts.old counts.new result }
@@ -146,7 +150,7 @@ pub extern "C" fn nigorzai_search_spread(
     call_ladder(
         points,
         degree,
-        spacing_of(spacing),
+        metric_of(spacing, factor),
         call,
         poles,
         flat,

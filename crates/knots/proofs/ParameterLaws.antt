@@ -19,6 +19,7 @@ use Rattle.places.proofs.PlaceLaws.{length-list_of, list_of-at, list_of-same, li
 use Rattle.geometry.specs.Doubles.{◌⊕◌, ◌⊗◌, ◌⊘◌, nought, one, at, sum_below}
 use Rattle.geometry.specs.Points.{point_at, distance}
 use Rattle.geometry.specs.declared.Point.{Point}
+use Rattle.knots.specs.declared.Metric.{Metric}
 use Rattle.knots.specs.declared.Spacing.{Spacing}
 use Rattle.knots.specs.declared.parameters.LineChords.{LineChords}
 use Rattle.knots.specs.declared.parameters.LineSums.{LineSums}
@@ -89,9 +90,9 @@ unfolding running_sums
 sums_same f g zero e = refl
 sums_same f g (suc n) e = rw (sums_same f g n (λ k h. e k (omega arith)), e n (omega arith))
 
-pub length-chords : (n : ℕ) (point : ℕ → Point) → length (chords n point) ≡ n - 1
+pub length-chords : (f : Float) (n : ℕ) (point : ℕ → Point) → length (chords f n point) ≡ n - 1
 unfolding chords
-length-chords n point = length-list_of (n - 1) _
+length-chords f n point = length-list_of (n - 1) _
 
 -- ---- a line's chords, taken up one by one
 
@@ -130,9 +131,9 @@ module _ (ds out₀ : List Float) where
         }
 
 -- n - 1 chords in the first places
-pub chorded_all : (n : ℕ) (point : ℕ → Point) (out₀ out : List Float) → n ≤ length out₀ → out ≡ laid 0 (n - 1) (at (chords n point)) out₀ → out ≡ chords n point ++ drop (n - 1) out₀
-chorded_all n point out₀ out h e =
-    e ∙ laid-front (n - 1) (at (chords n point)) out₀ (omega arith) ∙ ap (λ (l : List Float). l ++ drop (n - 1) out₀) (list_of_all (n - 1) (chords n point) nan (length-chords n point))
+pub chorded_all : (f : Float) (n : ℕ) (point : ℕ → Point) (out₀ out : List Float) → n ≤ length out₀ → out ≡ laid 0 (n - 1) (at (chords f n point)) out₀ → out ≡ chords f n point ++ drop (n - 1) out₀
+chorded_all f n point out₀ out h e =
+    e ∙ laid-front (n - 1) (at (chords f n point)) out₀ (omega arith) ∙ ap (λ (l : List Float). l ++ drop (n - 1) out₀) (list_of_all (n - 1) (chords f n point) nan (length-chords f n point))
 
 -- ---- the steps over the chords ds, summed up one by one in the chords' places
 
@@ -169,25 +170,25 @@ unfolding step_sums
 steps_front v n ds rest l = sums_same _ _ (n - 1) (λ k h. ap (step_of v) (get_or-append ds rest nan k (omega arith)))
 
 -- what a line is summed up to, from its chords and then their steps
-pub line_summed : (v : Spacing) (n : ℕ) (point : ℕ → Point) (out out₁ out₂ : List Float) (line : LineChords) (total : Float) → 1 ≤ n
-    → (line ≡ line_chords n point) × (out₁ ≡ chords n point ++ drop (n - 1) out) → (total ≡ at (step_sums v n out₁) (n - 1)) × (out₂ ≡ step_sums v n out₁ ++ drop n out₁)
-    → (◌≡◌ {A = LineSums} (record { length = line.length; total = total; confused = line.confused }) (line_sums v n point)) × (out₂ ≡ step_sums v n (chords n point) ++ drop n out)
+pub line_summed : (v : Metric) (n : ℕ) (point : ℕ → Point) (out out₁ out₂ : List Float) (line : LineChords) (total : Float) → 1 ≤ n
+    → (line ≡ line_chords v.factor n point) × (out₁ ≡ chords v.factor n point ++ drop (n - 1) out) → (total ≡ at (step_sums v.spacing n out₁) (n - 1)) × (out₂ ≡ step_sums v.spacing n out₁ ++ drop n out₁)
+    → (◌≡◌ {A = LineSums} (record { length = line.length; total = total; confused = line.confused }) (line_sums v n point)) × (out₂ ≡ step_sums v.spacing n (chords v.factor n point) ++ drop n out)
 unfolding line_chords line_sums
 line_summed v n point out out₁ out₂ line total h (e, f) (t, g) =
-    let ds : List Float = chords n point in
-    let long : length ds ≡ n - 1 = length-chords n point in
+    let ds : List Float = chords v.factor n point in
+    let long : length ds ≡ n - 1 = length-chords v.factor n point in
     let m : n - 1 + 1 ≡ n = omega arith in
-    let same : step_sums v n out₁ ≡ step_sums v n ds = ap (step_sums v n) f ∙ steps_front v n ds (drop (n - 1) out) long in
+    let same : step_sums v.spacing n out₁ ≡ step_sums v.spacing n ds = ap (step_sums v.spacing n) f ∙ steps_front v.spacing n ds (drop (n - 1) out) long in
     let rest : drop n out₁ ≡ drop n out = ap (drop n) f ∙ rw m at (rw long at (drop-append-add ds (drop (n - 1) out) 1) ∙ drop-drop 1 (n - 1) out) in
     (rw (e, t, same), g ∙ rw (same, rest))
 
 -- chord k of a line
-pub chord_of : (points : List Float) (start stride n k : ℕ) (d : Float) → k < n - 1 → d ≡ distance (point_at points (start + stride * k + stride)) (point_at points (start + stride * k))
-    → d ≡ at (chords n (line_of points start stride)) k
+pub chord_of : (f : Float) (points : List Float) (start stride n k : ℕ) (d : Float) → k < n - 1 → d ≡ distance f (point_at points (start + stride * k + stride)) (point_at points (start + stride * k))
+    → d ≡ at (chords f n (line_of points start stride)) k
 unfolding chords
-chord_of points start stride n k d h e =
+chord_of f points start stride n k d h e =
     let z : start + stride * k + stride ≡ start + stride * (k + 1) = omega arith in
-    rw z at e ∙ sym (list_of-at (n - 1) (λ k. distance (line_of points start stride (k + 1)) (line_of points start stride k)) k nan h)
+    rw z at e ∙ sym (list_of-at (n - 1) (λ k. distance f (line_of points start stride (k + 1)) (line_of points start stride k)) k nan h)
 
 -- a line's points are within the list
 pub line_inside : (points : List Float) (start stride n k : ℕ) → k < n - 1 → 3 * (start + stride * (n - 1)) + 3 ≤ length points → 3 * (start + stride * k + stride) + 3 ≤ length points
@@ -239,19 +240,19 @@ pub length_steps : (v : Spacing) (n : ℕ) (ds : List Float) → 1 ≤ n → len
 unfolding step_sums
 length_steps v n ds h = length-sums _ (n - 1) ∙ omega arith
 
-module _ (v : Spacing) (n : ℕ) (point : ℕ → Point) (h : 1 ≤ n) (line : LineSums) (out out₁ : List Float) (e : line ≡ line_sums v n point) (d : out₁ ≡ step_sums v n (chords n point) ++ drop n out) where
+module _ (v : Metric) (n : ℕ) (point : ℕ → Point) (h : 1 ≤ n) (line : LineSums) (out out₁ : List Float) (e : line ≡ line_sums v n point) (d : out₁ ≡ step_sums v.spacing n (chords v.factor n point) ++ drop n out) where
   pub ladder-refused : line.confused ≡ true → Found (point_parameters v n point) n n out out₁ false
   unfolding point_parameters line_sums
   ladder-refused c =
       record {
         answer = rw (sym (ap (λ (l : LineSums). l.confused) e) ∙ c);
-        rest = ap (drop n) d ∙ drop_at (step_sums v n (chords n point)) (drop n out) n (length_steps v n _ h);
+        rest = ap (drop n) d ∙ drop_at (step_sums v.spacing n (chords v.factor n point)) (drop n out) n (length_steps v.spacing n _ h);
       }
 
   pub ladder-accepted : line.confused ≡ false → (out₂ : List Float) → out₂ ≡ from_zero_to_one n (λ k. at out₁ k ⊗ (one ⊘ line.total)) ++ drop n out₁ → Found (point_parameters v n point) n n out out₂ true
   unfolding point_parameters line_sums
   ladder-accepted c out₂ f =
-      let r = rescaled n (one ⊘ line.total) (step_sums v n (chords n point)) (drop n out) out₁ out₂ (length_steps v n _ h) d f in
+      let r = rescaled n (one ⊘ line.total) (step_sums v.spacing n (chords v.factor n point)) (drop n out) out₁ out₂ (length_steps v.spacing n _ h) d f in
       record {
         answer = rw (sym (ap (λ (l : LineSums). l.confused) e) ∙ c, r.0, e);
         rest = r.1;

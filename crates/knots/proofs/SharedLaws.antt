@@ -18,7 +18,7 @@ use Rattle.places.proofs.PlaceLaws.{length-list_of, list_of-same, laid-front, dr
 use Rattle.places.proofs.RegionLaws.{length_part, get_or_in, take-splice, drop-splice}
 use Rattle.geometry.specs.declared.Point.{Point}
 use Rattle.geometry.specs.Doubles.{◌⊕◌, ◌⊗◌, ◌⊘◌, nought, one, double, at, sum_below}
-use Rattle.knots.specs.declared.Spacing.{Spacing}
+use Rattle.knots.specs.declared.Metric.{Metric}
 use Rattle.knots.specs.declared.parameters.LineSums.{LineSums}
 use Rattle.knots.specs.Parameters.{confusion, chords, step_sums, from_zero_to_one, Lines, add_line, added_lines, shared_parameters}
 use Rattle.knots.specs.Calls.{line_sums, Found, Added}
@@ -36,22 +36,22 @@ cleared n out out₁ h e = (
 )
 
 -- One line, whose sums are worked out in the n places behind the first n
-module _ (v : Spacing) (n : ℕ) (point : ℕ → Point) (h : 2 ≤ n) (used : ℕ) (line : LineSums) (out tail out₁ : List Float) (room : n + n ≤ length out)
-    (e : line ≡ line_sums v n point) (d : tail ≡ step_sums v n (chords n point) ++ drop n (part n (n + n) out)) (s : out₁ ≡ splice n (n + n) tail out) where
+module _ (v : Metric) (n : ℕ) (point : ℕ → Point) (h : 2 ≤ n) (used : ℕ) (line : LineSums) (out tail out₁ : List Float) (room : n + n ≤ length out)
+    (e : line ≡ line_sums v n point) (d : tail ≡ step_sums v.spacing n (chords v.factor n point) ++ drop n (part n (n + n) out)) (s : out₁ ≡ splice n (n + n) tail out) where
   long : length tail ≡ n + n - n
   long =
       let m : length (part n (n + n) out) ≡ n + n - n = length_part n (n + n) out room in
-      rw d (simp (length-append, length-drop) (omega (arith, m, length_steps v n (chords n point) (omega arith))))
+      rw d (simp (length-append, length-drop) (omega (arith, m, length_steps v.spacing n (chords v.factor n point) (omega arith))))
 
   kept : (take n out₁ ≡ take n out) × (drop (n + n) out₁ ≡ drop (n + n) out)
   kept = (ap (take n) s ∙ take-splice n (n + n) tail out (omega arith) room long, ap (drop (n + n)) s ∙ drop-splice n (n + n) tail out (omega arith) room long)
 
-  sum-at : (k : ℕ) → k < n → at out₁ (n + k) ≡ at (step_sums v n (chords n point)) k
+  sum-at : (k : ℕ) → k < n → at out₁ (n + k) ≡ at (step_sums v.spacing n (chords v.factor n point)) k
   sum-at k i =
       ap (λ (l : List Float). at l (n + k)) s
       ∙ get_or_in n (n + n) tail out (omega arith) room long nan k (omega arith)
       ∙ ap (λ (l : List Float). at l k) d
-      ∙ get_or-append (step_sums v n (chords n point)) _ nan k (omega (arith, length_steps v n (chords n point) (omega arith)))
+      ∙ get_or-append (step_sums v.spacing n (chords v.factor n point)) _ nan k (omega (arith, length_steps v.spacing n (chords v.factor n point) (omega arith)))
 
   first-at : (k : ℕ) → k < n → at out₁ k ≡ at (take n out) k
   first-at k i = sym (get_or-take n out₁ k nan i) ∙ ap (λ (l : List Float). at l k) kept.0
@@ -70,7 +70,7 @@ module _ (v : Spacing) (n : ℕ) (point : ℕ → Point) (h : 2 ≤ n) (used : �
       let t : take n out₂ ≡ new = ap (take n) f ∙ take_at new (drop n out₁) n long₂ in
       let b : drop (n + n) out₂ ≡ drop (n + n) out₁ = sym (drop-drop n n out₂) ∙ ap (drop n) (ap (drop n) f ∙ drop_at new (drop n out₁) n long₂) ∙ drop-drop n n out₁ in
       let i : LineSums = line_sums v n point in
-      let same : new ≡ nought ∷ list_of (n - 1) (λ k. at (take n out) (k + 1) ⊕ at (step_sums v n (chords n point)) (k + 1) ⊗ (one ⊘ i.total)) =
+      let same : new ≡ nought ∷ list_of (n - 1) (λ k. at (take n out) (k + 1) ⊕ at (step_sums v.spacing n (chords v.factor n point)) (k + 1) ⊗ (one ⊘ i.total)) =
       ap (λ (l : List Float). nought ∷ l) (list_of-same (n - 1) _ _ (λ k g. rw (first-at (k + 1) (omega arith), sum-at (k + 1) (omega arith), e))) in
       record {
         added = rw (sym (ap (λ (l : LineSums). le l.length confusion) e) ∙ c) (ap (λ (l : List Float). record { used = used + 1; sums = l }) (t ∙ same));
@@ -78,24 +78,24 @@ module _ (v : Spacing) (n : ℕ) (point : ℕ → Point) (h : 2 ≤ n) (used : �
       }
 
 -- a line is counted once, or not at all
-pub counted : (v : Spacing) (n : ℕ) (point : ℕ → Point) (lines : Lines) (out out' : List Float) (r : ℕ) → Added (add_line v n point lines) n out out' r → r ≤ lines.used + 1
+pub counted : (v : Metric) (n : ℕ) (point : ℕ → Point) (lines : Lines) (out out' : List Float) (r : ℕ) → Added (add_line v n point lines) n out out' r → r ≤ lines.used + 1
 unfolding add_line
 counted v n point lines out out' r a =
-    most (le (sum_below (n - 1) (at (chords n point))) confusion) (record { used = r; sums = take n out' }) lines _ (omega arith) a.added
+    most (le (sum_below (n - 1) (at (chords v.factor n point))) confusion) (record { used = r; sums = take n out' }) lines _ (omega arith) a.added
   where
     most : (b : Bool) (x l m : Lines) → m.used ≤ l.used + 1 → x ≡ cond b l m → x.used ≤ l.used + 1
     most true x l m h e = omega (arith, ap (λ (y : Lines). y.used) e)
     most false x l m h e = omega (arith, ap (λ (y : Lines). y.used) e)
 
 -- Where r of the lines are done: what the lines that are left add to the present sums is what all of them add to none
-pub record Adding (v : Spacing) (lines n : ℕ) (point : ℕ → ℕ → Point) (out₀ out : List Float) (used r : ℕ) : Type 0 where
+pub record Adding (v : Metric) (lines n : ℕ) (point : ℕ → ℕ → Point) (out₀ out : List Float) (used r : ℕ) : Type 0 where
   pub done : r ≤ lines
   pub few : used ≤ r
   pub long : length out ≡ length out₀
   pub rest : drop (n + n) out ≡ drop (n + n) out₀
   pub left : each r lines (λ r. add_line v n (point r)) (record { used = used; sums = take n out }) ≡ each 0 lines (λ r. add_line v n (point r)) (record { used = 0; sums = take n out₀ })
 
-module _ (v : Spacing) (lines n : ℕ) (point : ℕ → ℕ → Point) (out₀ out : List Float) (used r : ℕ) (a : Adding v lines n point out₀ out used r) where
+module _ (v : Metric) (lines n : ℕ) (point : ℕ → ℕ → Point) (out₀ out : List Float) (used r : ℕ) (a : Adding v lines n point out₀ out used r) where
   pub adding-next : r < lines → (out' : List Float) (used' : ℕ) → Added (add_line v n (point r) (record { used = used; sums = take n out })) n out out' used' → length out' ≡ length out
       → Adding v lines n point out₀ out' used' (r + 1)
   adding-next h out' used' b l =
@@ -117,7 +117,7 @@ module _ (v : Spacing) (lines n : ℕ) (point : ℕ → ℕ → Point) (out₀ o
       }
 
 -- the averages of the lines that were added
-module _ (v : Spacing) (lines n : ℕ) (point : ℕ → ℕ → Point) (h : 2 ≤ n) (used : ℕ) (out out₁ : List Float) (a : Added (added_lines v lines n point) n out out₁ used) where
+module _ (v : Metric) (lines n : ℕ) (point : ℕ → ℕ → Point) (h : 2 ≤ n) (used : ℕ) (out out₁ : List Float) (a : Added (added_lines v lines n point) n out out₁ used) where
   used_is : (added_lines v lines n point).used ≡ used
   used_is = sym (ap (λ (l : Lines). l.used) a.added)
 

@@ -5,7 +5,7 @@ use Rattle.std.specs.Float.Ieee.{le}
 use Rattle.places.specs.Places.{laid, some_below}
 use Rattle.geometry.specs.declared.Point.{Point}
 use Rattle.geometry.specs.Doubles.{at, sum_below}
-use Rattle.knots.specs.declared.Spacing.{Spacing}
+use Rattle.knots.specs.declared.Metric.{Metric}
 use Rattle.knots.specs.declared.parameters.LineChords.{LineChords}
 use Rattle.knots.specs.declared.parameters.LineSums.{LineSums}
 use Rattle.knots.specs.Parameters.{confusion, chords, step_sums, Lines}
@@ -25,16 +25,16 @@ pub record HasLines (points : List Float) (lines pitch n stride : ℕ) : Type 0 
   pub last : 3 * ((lines - 1) * pitch + stride * (n - 1)) + 3 ≤ length points
 
 -- What the chords of a line of n points come to: their length, and whether two neighbours are confused
-unfoldable pub line_chords : ℕ → (ℕ → Point) → LineChords
-line_chords n point =
-    let ds = chords n point in
+unfoldable pub line_chords : Float → ℕ → (ℕ → Point) → LineChords
+line_chords f n point =
+    let ds = chords f n point in
     record { length = sum_below (n - 1) (at ds); confused = some_below (n - 1) (λ k. le (at ds k) confusion) }
 
 -- What a line of n points is summed up to, beside its running sums: the length of its chords, its last running sum, and whether two neighbours are confused
-unfoldable pub line_sums : Spacing → ℕ → (ℕ → Point) → LineSums
+unfoldable pub line_sums : Metric → ℕ → (ℕ → Point) → LineSums
 line_sums v n point =
-    let ds = chords n point in
-    record { length = sum_below (n - 1) (at ds); total = at (step_sums v n ds) (n - 1); confused = some_below (n - 1) (λ k. le (at ds k) confusion) }
+    let ds = chords v.factor n point in
+    record { length = sum_below (n - 1) (at ds); total = at (step_sums v.spacing n ds) (n - 1); confused = some_below (n - 1) (λ k. le (at ds k) confusion) }
 
 -- The n parameters that were looked for: r says whether there are any, and then they stand in the first n places. Places from m on stay.
 pub record Found (parameters : Option (List Float)) (n m : ℕ) (out out' : List Float) (r : Bool) : Type 0 where

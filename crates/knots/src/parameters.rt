@@ -9,7 +9,7 @@ ghost use Rattle.knots.specs.Parameters.{step_of, chords, step_sums, from_zero_t
 ghost use Rattle.knots.specs.Lines.{line_of, lines_of};
 ghost use Rattle.knots.specs.Calls.{HasLine, HasLines, line_chords, line_sums, Found, Added};
 
-use crate::Spacing;
+use crate::{Metric, Spacing};
 use geometry::{CONFUSION, point_at};
 
 // What a line is summed up to: the length of its chords, its last running sum, and whether two neighbours are confused.
@@ -38,24 +38,31 @@ fn step(d: f64, spacing: Spacing) -> f64
 }
 
 // The distance of the point one stride behind point k to point k.
-fn chord_at(points: &[f64], k: usize, stride: usize) -> f64
+fn chord_at(points: &[f64], k: usize, stride: usize, factor: f64) -> f64
     requires { 3 * (k + stride) + 3 ≤ length points.now }
-    ensures { result ≡ distance (point_at points.now (k + stride)) (point_at points.now k) }
+    ensures { result ≡ distance factor (point_at points.now (k + stride)) (point_at points.now k) }
 {
     let next = point_at(points, k + stride);
     let here = point_at(points, k);
-    next.distance(here)
+    next.distance(here, factor)
 }
 
 // The chords of a line of n points, in the first n - 1 places of `out`.
-fn line_chords(points: &[f64], start: usize, stride: usize, n: usize, out: &mut [f64]) -> LineChords
+fn line_chords(
+    points: &[f64],
+    start: usize,
+    stride: usize,
+    n: usize,
+    factor: f64,
+    out: &mut [f64],
+) -> LineChords
     requires { HasLine points.now start stride n × (n ≤ length out.old) }
-    ensures { (result ≡ line_chords n (line_of points.now start stride)) × (out.new ≡ chords n (line_of points.now start stride) ++ drop (n - 1) out.old) }
+    ensures { (result ≡ line_chords factor n (line_of points.now start stride)) × (out.new ≡ chords factor n (line_of points.now start stride) ++ drop (n - 1) out.old) }
 {
     let mut length = 0.0;
     let mut confused = false;
     for k in 0..n - 1 {
-        let d = chord_at(points, start + stride * k, stride);
+        let d = chord_at(points, start + stride * k, stride, factor);
         out[k] = d;
         length += d;
         confused = confused | (d <= CONFUSION);
@@ -85,13 +92,14 @@ fn line_sums(
     start: usize,
     stride: usize,
     n: usize,
-    spacing: Spacing,
+    metric: Metric,
     out: &mut [f64],
 ) -> LineSums
     requires { HasLine points.now start stride n × (n ≤ length out.old) }
-    ensures { (result ≡ line_sums spacing n (line_of points.now start stride)) × (out.new ≡ step_sums spacing n (chords n (line_of points.now start stride)) ++ drop n out.old) }
+    ensures { (result ≡ line_sums metric n (line_of points.now start stride)) × (out.new ≡ step_sums metric.spacing n (chords metric.factor n (line_of points.now start stride)) ++ drop n out.old) }
 {
-    let line = line_chords(points, start, stride, n, out);
+    let spacing = metric.spacing;
+    let line = line_chords(points, start, stride, n, metric.factor, out);
     let total = sum_steps(out, n, spacing);
     LineSums {
         length: line.length,
@@ -119,13 +127,13 @@ pub fn point_parameters(
     start: usize,
     stride: usize,
     n: usize,
-    spacing: Spacing,
+    metric: Metric,
     out: &mut [f64],
 ) -> bool
     requires { HasLine points.now start stride n × (n ≤ length out.old) }
-    ensures { Found (point_parameters spacing n (line_of points.now start stride)) n n out.old out.new result }
+    ensures { Found (point_parameters metric n (line_of points.now start stride)) n n out.old out.new result }
 {
-    let line = line_sums(points, start, stride, n, spacing, out);
+    let line = line_sums(points, start, stride, n, metric, out);
     if line.confused {
         return false;
     }
@@ -151,15 +159,15 @@ fn add_line(
     start: usize,
     stride: usize,
     n: usize,
-    spacing: Spacing,
+    metric: Metric,
     used: usize,
     out: &mut [f64],
 ) -> usize
     requires { HasLine points.now start stride n × ((used < 2 ^ 53) × (n + n ≤ length out.old)) }
-    ensures { Added (add_line spacing n (line_of points.now start stride) (record { used = used; sums = take n out.old })) n out.old out.new result }
+    ensures { Added (add_line metric n (line_of points.now start stride) (record { used = used; sums = take n out.old })) n out.old out.new result }
 {
     let end = n + n;
-    let line = line_sums(points, start, stride, n, spacing, &mut out[n..end]);
+    let line = line_sums(points, start, stride, n, metric, &mut out[n..end]);
     if line.length <= CONFUSION {
         return used;
     }
@@ -174,16 +182,16 @@ fn add_lines(
     pitch: usize,
     n: usize,
     stride: usize,
-    spacing: Spacing,
+    metric: Metric,
     out: &mut [f64],
 ) -> usize
     requires { HasLines points.now lines pitch n stride × (n + n ≤ length out.old) }
-    ensures { (result ≤ lines) × Added (added_lines spacing lines n (lines_of points.now pitch stride)) n out.old out.new result }
+    ensures { (result ≤ lines) × Added (added_lines metric lines n (lines_of points.now pitch stride)) n out.old out.new result }
 {
     places::fill(out, 0, n, 0.0);
     let mut used = 0;
     for r in 0..lines {
-        used = add_line(points, r * pitch, stride, n, spacing, used, out);
+        used = add_line(points, r * pitch, stride, n, metric, used, out);
     }
     used
 }
@@ -210,13 +218,13 @@ pub fn shared_parameters(
     pitch: usize,
     n: usize,
     stride: usize,
-    spacing: Spacing,
+    metric: Metric,
     out: &mut [f64],
 ) -> bool
     requires { HasLines points.now lines pitch n stride × (n + n ≤ length out.old) }
-    ensures { Found (shared_parameters spacing lines n (lines_of points.now pitch stride)) n (n + n) out.old out.new result }
+    ensures { Found (shared_parameters metric lines n (lines_of points.now pitch stride)) n (n + n) out.old out.new result }
 {
-    let used = add_lines(points, lines, pitch, n, stride, spacing, out);
+    let used = add_lines(points, lines, pitch, n, stride, metric, out);
     if used == 0 {
         return false;
     }

@@ -15,7 +15,7 @@ use Rattle.bspline.specs.declared.Refusal.{Refusal}
 use Rattle.bspline.specs.declared.Refusal.TheVariants.{ConfusedPoints}
 use Rattle.bspline.specs.declared.Verdict.{Verdict}
 use Rattle.bspline.specs.declared.Verdict.TheVariants.{Pass, Stop}
-use Rattle.knots.specs.declared.Spacing.{Spacing}
+use Rattle.knots.specs.declared.Metric.{Metric}
 use Rattle.knots.specs.Parameters.{confusion, chords, step_sums, from_zero_to_one, point_parameters}
 use Rattle.knots.proofs.ParameterLaws.{unless-some, length-zero_to-one}
 use Rattle.tables.specs.BasisTable.{basis_table}
@@ -38,11 +38,11 @@ use Rattle.fitting.proofs.ToleranceLaws.{Lawful, ladder_lawful, alone-kept, with
 use Rattle.making.proofs.HandedLaws.{From, taken, refined_from, refined_mark, spread_mark, interpolated_mark, alone_cases}
 
 -- as many parameters as points
-pub params-long : (v : Spacing) (n : ℕ) (point : ℕ → Point) (params : List Float) → point_parameters v n point ≡ some params → length params ≡ n
+pub params-long : (v : Metric) (n : ℕ) (point : ℕ → Point) (params : List Float) → point_parameters v n point ≡ some params → length params ≡ n
 unfolding point_parameters
 params-long v n point params e =
-    let ds : List Float = chords n point in
-    let sums : List Float = step_sums v n ds in
+    let ds : List Float = chords v.factor n point in
+    let sums : List Float = step_sums v.spacing n ds in
     let g : ℕ → Float = λ k. at sums k ⊗ (one ⊘ at sums (n - 1)) in
     sym (ap length (unless-some (some_below (n - 1) (λ k. le (at ds k) confusion)) (from_zero_to_one n g) params e)) ∙ length-zero_to-one n g
 
@@ -66,41 +66,41 @@ stopped : (c : Refusal) (x : Result) (r : Answer) (degree : ℕ) → r ≡ answe
 unfolding checked answer_of
 stopped c x r degree e = e
 
-confused : (s : List Float) (degree : ℕ) (fit : Direction → Result) (r : Answer) → r ≡ answer_of degree (checked Pass (fit_with s degree fit none)) → r ≡ Refused ConfusedPoints
+confused : (factor : Float) (s : List Float) (degree : ℕ) (fit : Direction → Result) (r : Answer) → r ≡ answer_of degree (checked Pass (fit_with factor s degree fit none)) → r ≡ Refused ConfusedPoints
 unfolding checked answer_of fit_with
-confused s degree fit r e = e
+confused factor s degree fit r e = e
 
-module _ (call : Call) (fit : Direction → Marked) (by : (d : Direction) → fit_by call d ≡ accepted (fit d)) (s : List Float) (degree : ℕ) (params : List Float) where
-  result_is : checked Pass (fit_with s degree (fit_by call) (some params)) ≡ accepted (fit (ladder s degree params))
+module _ (call : Call) (fit : Direction → Marked) (by : (d : Direction) → fit_by call d ≡ accepted (fit d)) (factor : Float) (s : List Float) (degree : ℕ) (params : List Float) where
+  result_is : checked Pass (fit_with factor s degree (fit_by call) (some params)) ≡ accepted (fit (ladder factor s degree params))
   unfolding checked fit_with
-  result_is = by (ladder s degree params)
+  result_is = by (ladder factor s degree params)
 
-  accepted-answer : (r : Answer) → r ≡ answer_of degree (checked Pass (fit_with s degree (fit_by call) (some params))) → r ≡ Fitted (fit_of degree (fit (ladder s degree params)))
+  accepted-answer : (r : Answer) → r ≡ answer_of degree (checked Pass (fit_with factor s degree (fit_by call) (some params))) → r ≡ Fitted (fit_of degree (fit (ladder factor s degree params)))
   unfolding answer_of
   accepted-answer r e = e ∙ ap (answer_of degree) result_is
 
-  accepted-flat : (xs ys : List Float) → xs ≡ handed_flat (checked Pass (fit_with s degree (fit_by call) (some params))) ys
-      → xs ≡ laid 0 (length (unmarked (fit (ladder s degree params))).flat) (at (unmarked (fit (ladder s degree params))).flat) ys
+  accepted-flat : (xs ys : List Float) → xs ≡ handed_flat (checked Pass (fit_with factor s degree (fit_by call) (some params))) ys
+      → xs ≡ laid 0 (length (unmarked (fit (ladder factor s degree params))).flat) (at (unmarked (fit (ladder factor s degree params))).flat) ys
   unfolding handed
   accepted-flat xs ys e = e ∙ ap (λ (x : Result). handed_flat x ys) result_is
 
-  accepted-poles : (xs ys : List Float) → xs ≡ handed_poles (checked Pass (fit_with s degree (fit_by call) (some params))) ys
-      → xs ≡ laid 0 (length (unmarked (fit (ladder s degree params))).poles) (at (unmarked (fit (ladder s degree params))).poles) ys
+  accepted-poles : (xs ys : List Float) → xs ≡ handed_poles (checked Pass (fit_with factor s degree (fit_by call) (some params))) ys
+      → xs ≡ laid 0 (length (unmarked (fit (ladder factor s degree params))).poles) (at (unmarked (fit (ladder factor s degree params))).poles) ys
   unfolding handed
   accepted-poles xs ys e = e ∙ ap (λ (x : Result). handed_poles x ys) result_is
 
-module _ (v : Spacing) (s : List Float) (degree : ℕ) (l l' : Lent) (r : Answer) (t : Float)
+module _ (v : Metric) (s : List Float) (degree : ℕ) (l l' : Lent) (r : Answer) (t : Float)
     (refinement : Direction → Option Candidate) (fit : Direction → Marked) (keeps : Keeps t refinement fit) where
   -- an accepted ladder: its parameters are there
   module _ (params : List Float) (n : length params ≡ point_count s) (under : degree + 1 ≤ point_count s) (room : Roomy (point_count s) degree (room_of l))
-      (answer : r ≡ Fitted (fit_of degree (fit (ladder s degree params))))
-      (flat : l'.flat ≡ laid 0 (length (unmarked (fit (ladder s degree params))).flat) (at (unmarked (fit (ladder s degree params))).flat) l.flat)
-      (poles : l'.poles ≡ laid 0 (length (unmarked (fit (ladder s degree params))).poles) (at (unmarked (fit (ladder s degree params))).poles) l.poles) where
+      (answer : r ≡ Fitted (fit_of degree (fit (ladder v.factor s degree params))))
+      (flat : l'.flat ≡ laid 0 (length (unmarked (fit (ladder v.factor s degree params))).flat) (at (unmarked (fit (ladder v.factor s degree params))).flat) l.flat)
+      (poles : l'.poles ≡ laid 0 (length (unmarked (fit (ladder v.factor s degree params))).poles) (at (unmarked (fit (ladder v.factor s degree params))).poles) l.poles) where
     distances_of : Fit → List Float
-    distances_of f = ladder_distances (basis_table (take (f.poles + degree + 1) l'.flat) degree params) (take (3 * f.poles) l'.poles) s
+    distances_of f = ladder_distances v.factor (basis_table (take (f.poles + degree + 1) l'.flat) degree params) (take (3 * f.poles) l'.poles) s
 
     -- what stands in the slices is the fit c
-    private-handed : (c : Candidate) → unmarked (fit (ladder s degree params)) ≡ c → From (ladder s degree params) c → distances_of (fit_of degree (fit (ladder s degree params))) ≡ c.distances
+    private-handed : (c : Candidate) → unmarked (fit (ladder v.factor s degree params)) ≡ c → From (ladder v.factor s degree params) c → distances_of (fit_of degree (fit (ladder v.factor s degree params))) ≡ c.distances
     unfolding distances_of ladder fit_of
     private-handed c u h =
         let k = h.knots in
@@ -114,29 +114,29 @@ module _ (v : Spacing) (s : List Float) (degree : ℕ) (l l' : Lent) (r : Answer
         let y : take (3 * (length c.flat - degree - 1)) l'.poles ≡ c.poles = rw (b, poles, u) (taken c.poles l.poles (omega arith)) in
         rw (u, x, y) (sym h.own.distances_are)
 
-    handed-kept : LadderKeptBy (ladder s degree params) (distances_of) (refinement (ladder s degree params)) t (point_count s) r
+    handed-kept : LadderKeptBy (ladder v.factor s degree params) (distances_of) (refinement (ladder v.factor s degree params)) t (point_count s) r
     unfolding fit_of ladder unmarked
     handed-kept =
-        let d = ladder s degree params in
-        let k = keeps.kept d (ladder_lawful s degree params) in
+        let d = ladder v.factor s degree params in
+        let k = keeps.kept d (ladder_lawful v.factor s degree params) in
         record {
           refined_within = λ f x e m.
               let q : fit_of degree (fit d) ≡ f = cc in
               let c = refined_mark (fit d) x (ap (λ (g : Fit). g.mark) q ∙ m) in
-              subst (NoneAbove t) (sym (ap distances_of (sym q) ∙ private-handed c.0 (ap unmarked c.1) (keeps.from-refined d (ladder_lawful s degree params) (omega (arith, under)) c.0 c.1))) (k.refined_within c.0 c.1);
+              subst (NoneAbove t) (sym (ap distances_of (sym q) ∙ private-handed c.0 (ap unmarked c.1) (keeps.from-refined d (ladder_lawful v.factor s degree params) (omega (arith, under)) c.0 c.1))) (k.refined_within c.0 c.1);
           spread_within = λ f x e m.
               let q : fit_of degree (fit d) ≡ f = cc in
               let c = spread_mark (fit d) x (ap (λ (g : Fit). g.mark) q ∙ m) in
-              subst (NoneAbove t) (sym (ap distances_of (sym q) ∙ private-handed c.1.0 (ap unmarked c.1.1) (keeps.from-spread d (ladder_lawful s degree params) c.0 c.1.0 c.1.1).0)) (k.spread_within c.0 c.1.0 c.1.1);
+              subst (NoneAbove t) (sym (ap distances_of (sym q) ∙ private-handed c.1.0 (ap unmarked c.1.1) (keeps.from-spread d (ladder_lawful v.factor s degree params) c.0 c.1.0 c.1.1).0)) (k.spread_within c.0 c.1.0 c.1.1);
           spread_passes = λ f x e m.
               let q : fit_of degree (fit d) ≡ f = cc in
               let c = spread_mark (fit d) x (ap (λ (g : Fit). g.mark) q ∙ m) in
-              let p : f.poles ≡ c.0 = ap (λ (g : Fit). g.poles) (sym q) ∙ ap (λ (a : Marked). pole_count degree (unmarked a).flat) c.1.1 ∙ (keeps.from-spread d (ladder_lawful s degree params) c.0 c.1.0 c.1.1).1 in
+              let p : f.poles ≡ c.0 = ap (λ (g : Fit). g.poles) (sym q) ∙ ap (λ (a : Marked). pole_count degree (unmarked a).flat) c.1.1 ∙ (keeps.from-spread d (ladder_lawful v.factor s degree params) c.0 c.1.0 c.1.1).1 in
               rw p (k.spread_passes c.0 c.1.0 c.1.1);
           one_below_fails = λ f x e m.
               let q : fit_of degree (fit d) ≡ f = cc in
               let c = spread_mark (fit d) x (ap (λ (g : Fit). g.mark) q ∙ m) in
-              let p : f.poles ≡ c.0 = ap (λ (g : Fit). g.poles) (sym q) ∙ ap (λ (a : Marked). pole_count degree (unmarked a).flat) c.1.1 ∙ (keeps.from-spread d (ladder_lawful s degree params) c.0 c.1.0 c.1.1).1 in
+              let p : f.poles ≡ c.0 = ap (λ (g : Fit). g.poles) (sym q) ∙ ap (λ (a : Marked). pole_count degree (unmarked a).flat) c.1.1 ∙ (keeps.from-spread d (ladder_lawful v.factor s degree params) c.0 c.1.0 c.1.1).1 in
               rw p (k.one_below_fails c.0 c.1.0 c.1.1);
           interpolated_stuck = λ f x e m.
               let q : fit_of degree (fit d) ≡ f = cc in
@@ -150,14 +150,14 @@ module _ (v : Spacing) (s : List Float) (degree : ℕ) (l l' : Lent) (r : Answer
 
   -- the same in the contract's words
   accepted-kept : (params : List Float) → point_parameters v (point_count s) (point_at s) ≡ some params → degree + 1 ≤ point_count s → Roomy (point_count s) degree (room_of l)
-      → r ≡ Fitted (fit_of degree (fit (ladder s degree params)))
-      → l'.flat ≡ laid 0 (length (unmarked (fit (ladder s degree params))).flat) (at (unmarked (fit (ladder s degree params))).flat) l.flat
-      → l'.poles ≡ laid 0 (length (unmarked (fit (ladder s degree params))).poles) (at (unmarked (fit (ladder s degree params))).poles) l.poles
+      → r ≡ Fitted (fit_of degree (fit (ladder v.factor s degree params)))
+      → l'.flat ≡ laid 0 (length (unmarked (fit (ladder v.factor s degree params))).flat) (at (unmarked (fit (ladder v.factor s degree params))).flat) l.flat
+      → l'.poles ≡ laid 0 (length (unmarked (fit (ladder v.factor s degree params))).poles) (at (unmarked (fit (ladder v.factor s degree params))).poles) l.poles
       → LadderKept v s degree t (refinement (ladder_of v s degree)) l' r
   unfolding ladder_of distances_of ladder
   accepted-kept params p under room answer flat poles =
       let k = handed-kept params (params-long v (point_count s) (point_at s) params p) under room answer flat poles in
-      let q : ladder s degree (params_or (point_parameters v (point_count s) (point_at s))) ≡ ladder s degree params = ap (λ (o : Option (List Float)). ladder s degree (params_or o)) p in
+      let q : ladder v.factor s degree (params_or (point_parameters v (point_count s) (point_at s))) ≡ ladder v.factor s degree params = ap (λ (o : Option (List Float)). ladder v.factor s degree (params_or o)) p in
       record {
         refined_within = λ f x e m. rw p (k.refined_within f x e m);
         spread_within = λ f x e m. rw p (k.spread_within f x e m);
@@ -179,22 +179,22 @@ module _ (v : Spacing) (s : List Float) (degree : ℕ) (l l' : Lent) (r : Answer
       }
 
   -- who hands a call's result out keeps demand 3. The slices that the call was judged by are m: those that were lent, or none.
-  pub kept_by-hands : (call : Call) (m : Lent) → ((d : Direction) → fit_by call d ≡ accepted (fit d)) → (ladder_checks call s degree m ≡ Pass → ladder_checks call s degree l ≡ Pass)
+  pub kept_by-hands : (call : Call) (m : Lent) → ((d : Direction) → fit_by call d ≡ accepted (fit d)) → (ladder_checks call s degree v m ≡ Pass → ladder_checks call s degree v l ≡ Pass)
       → HandsOut degree (result_of call s degree v m) l l' r → LadderKept v s degree t (refinement (ladder_of v s degree)) l' r
   unfolding ladder_fit result_of
-  kept_by-hands call m by lends h = go (ladder_checks call s degree m) refl (point_parameters v (point_count s) (point_at s)) refl h.answer h.flat h.poles
+  kept_by-hands call m by lends h = go (ladder_checks call s degree v m) refl (point_parameters v (point_count s) (point_at s)) refl h.answer h.flat h.poles
     where
-      go : (w : Verdict) → ladder_checks call s degree m ≡ w → (o : Option (List Float)) → point_parameters v (point_count s) (point_at s) ≡ o
-          → r ≡ answer_of degree (checked w (fit_with s degree (fit_by call) o))
-          → l'.flat ≡ handed_flat (checked w (fit_with s degree (fit_by call) o)) l.flat
-          → l'.poles ≡ handed_poles (checked w (fit_with s degree (fit_by call) o)) l.poles
+      go : (w : Verdict) → ladder_checks call s degree v m ≡ w → (o : Option (List Float)) → point_parameters v (point_count s) (point_at s) ≡ o
+          → r ≡ answer_of degree (checked w (fit_with v.factor s degree (fit_by call) o))
+          → l'.flat ≡ handed_flat (checked w (fit_with v.factor s degree (fit_by call) o)) l.flat
+          → l'.poles ≡ handed_poles (checked w (fit_with v.factor s degree (fit_by call) o)) l.poles
           → LadderKept v s degree t (refinement (ladder_of v s degree)) l' r
-      go (Stop c) e o p a f q = refused-kept c (stopped c (fit_with s degree (fit_by call) o) r degree a)
-      go Pass e none p a f q = refused-kept _ (confused s degree (fit_by call) r a)
+      go (Stop c) e o p a f q = refused-kept c (stopped c (fit_with v.factor s degree (fit_by call) o) r degree a)
+      go Pass e none p a f q = refused-kept _ (confused v.factor s degree (fit_by call) r a)
       go Pass e (some params) p a f q =
-          let g = checks_give call s degree l (lends e) in
-          accepted-kept params p (omega (arith, count_under call (point_count s) degree g.1 g.0.low)) g.2 (accepted-answer call fit by s degree params r a) (accepted-flat call fit by s degree params l'.flat l.flat f)
-          (accepted-poles call fit by s degree params l'.poles l.poles q)
+          let g = checks_give call s degree v l (lends e) in
+          accepted-kept params p (omega (arith, count_under call (point_count s) degree g.1 g.0.low)) g.2 (accepted-answer call fit by v.factor s degree params r a) (accepted-flat call fit by v.factor s degree params l'.flat l.flat f)
+          (accepted-poles call fit by v.factor s degree params l'.poles l.poles q)
 
 -- ---- the two calls
 abbrev pub Spreads : Direction → Marked → Type 0
@@ -243,13 +243,13 @@ keeps-within t =
     }
 
 -- Demand 3 needs no proof of the program: it follows from the call's equations.
-module _ (s : List Float) (degree : ℕ) (t : Float) (v : Spacing) (l l' : Lent) (r : Answer) where
-  pub within-handed : (m : Lent) → (ladder_checks (ApproximateWithin t) s degree m ≡ Pass → ladder_checks (ApproximateWithin t) s degree l ≡ Pass)
+module _ (s : List Float) (degree : ℕ) (t : Float) (v : Metric) (l l' : Lent) (r : Answer) where
+  pub within-handed : (m : Lent) → (ladder_checks (ApproximateWithin t) s degree v m ≡ Pass → ladder_checks (ApproximateWithin t) s degree v l ≡ Pass)
       → HandsOut degree (result_of (ApproximateWithin t) s degree v m) l l' r → LadderKept v s degree t (fit_with_refined_knots (ladder_of v s degree) t) l' r
   unfolding fit_by
   within-handed m = kept_by-hands v s degree l l' r t (λ d. fit_with_refined_knots d t) (λ d. fit_within d t) (keeps-within t) (ApproximateWithin t) m (λ d. refl)
 
-  pub spread-handed : (m : Lent) → (ladder_checks (SearchSpread t) s degree m ≡ Pass → ladder_checks (SearchSpread t) s degree l ≡ Pass)
+  pub spread-handed : (m : Lent) → (ladder_checks (SearchSpread t) s degree v m ≡ Pass → ladder_checks (SearchSpread t) s degree v l ≡ Pass)
       → HandsOut degree (result_of (SearchSpread t) s degree v m) l l' r → LadderKept v s degree t none l' r
   unfolding fit_by
   spread-handed m = kept_by-hands v s degree l l' r t (λ d. none) (λ d. spread_alone d t) (keeps_alone t) (SearchSpread t) m (λ d. refl)
@@ -261,25 +261,25 @@ module _ (s : List Float) (degree : ℕ) (t : Float) (v : Spacing) (l l' : Lent)
   searches-spread c = record { call = c; kept = spread-handed l (λ e. e) c.hands }
 
 -- ---- two calls of the spread search alone
-spread-answer : (s : List Float) (degree : ℕ) (params : List Float) (t : Float) (r : Answer) → r ≡ answer_of degree (checked Pass (fit_with s degree (fit_by (SearchSpread t)) (some params))) → r ≡ Fitted (fit_of degree (spread_alone (ladder s degree params) t))
+spread-answer : (factor : Float) (s : List Float) (degree : ℕ) (params : List Float) (t : Float) (r : Answer) → r ≡ answer_of degree (checked Pass (fit_with factor s degree (fit_by (SearchSpread t)) (some params))) → r ≡ Fitted (fit_of degree (spread_alone (ladder factor s degree params) t))
 unfolding fit_by
-spread-answer s degree params t r e = accepted-answer (SearchSpread t) (λ d. spread_alone d t) (λ d. refl) s degree params r e
+spread-answer factor s degree params t r e = accepted-answer (SearchSpread t) (λ d. spread_alone d t) (λ d. refl) factor s degree params r e
 
-fits_again : (s : List Float) (degree : ℕ) (params : List Float) (t t' : Float) (r₁ r₂ : Answer) (f₁ : Fit) → le t t' ≡ true → r₁ ≡ Fitted f₁
-    → r₁ ≡ Fitted (fit_of degree (spread_alone (ladder s degree params) t)) → r₂ ≡ Fitted (fit_of degree (spread_alone (ladder s degree params) t'))
+fits_again : (factor : Float) (s : List Float) (degree : ℕ) (params : List Float) (t t' : Float) (r₁ r₂ : Answer) (f₁ : Fit) → le t t' ≡ true → r₁ ≡ Fitted f₁
+    → r₁ ≡ Fitted (fit_of degree (spread_alone (ladder factor s degree params) t)) → r₂ ≡ Fitted (fit_of degree (spread_alone (ladder factor s degree params) t'))
     → (f₂ : Fit) × ((r₂ ≡ Fitted f₂) × ((f₂.poles ≤ f₁.poles) × ((x : Float) → f₁.mark ≡ Spread x → (y : Float) × (f₂.mark ≡ Spread y))))
 unfolding fit_of ladder mark_of
-fits_again s degree params t t' r₁ r₂ f₁ h e a b =
-    let d = ladder s degree params in
+fits_again factor s degree params t t' r₁ r₂ f₁ h e a b =
+    let d = ladder factor s degree params in
     let q : fit_of degree (spread_alone d t) ≡ f₁ = cc in (
       fit_of degree (spread_alone d t'),
       (
         b,
         (
-          subst (λ (f : Fit). poles_of degree (spread_alone d t') ≤ f.poles) q (no_more d (ladder_lawful s degree params) t t' h),
+          subst (λ (f : Fit). poles_of degree (spread_alone d t') ≤ f.poles) q (no_more d (ladder_lawful factor s degree params) t t' h),
           λ x m.
               let c = spread_mark (spread_alone d t) x (ap (λ (g : Fit). g.mark) q ∙ m) in
-              let n = spread_again d (ladder_lawful s degree params) t t' h c.0 c.1.0 c.1.1 in
+              let n = spread_again d (ladder_lawful factor s degree params) t t' h c.0 c.1.0 c.1.1 in
               (largest n.1.0.distances, ap mark_of n.1.1.0),
         ),
       ),
@@ -289,13 +289,13 @@ fits_again s degree params t t' r₁ r₂ f₁ h e a b =
 pub spread_never-more : SpreadNeverMorePoles
 unfolding ladder_fit result_of ladder_checks count_verdict
 spread_never-more s degree v t t' l l₁ l₂ r₁ r₂ f₁ c₁ c₂ h e =
-    go (ladder_checks (SearchSpread t) s degree l) (point_parameters v (point_count s) (point_at s)) c₁.call.hands.answer c₂.call.hands.answer
+    go (ladder_checks (SearchSpread t) s degree v l) (point_parameters v (point_count s) (point_at s)) c₁.call.hands.answer c₂.call.hands.answer
   where
     refusal : (c : Refusal) → r₁ ≡ Refused c → ⊥
     refusal c q = let z : ◌≡◌ {A = ℕ} 0 1 = cc in omega arith
 
-    go : (w : Verdict) (o : Option (List Float)) → r₁ ≡ answer_of degree (checked w (fit_with s degree (fit_by (SearchSpread t)) o)) → r₂ ≡ answer_of degree (checked w (fit_with s degree (fit_by (SearchSpread t')) o))
+    go : (w : Verdict) (o : Option (List Float)) → r₁ ≡ answer_of degree (checked w (fit_with v.factor s degree (fit_by (SearchSpread t)) o)) → r₂ ≡ answer_of degree (checked w (fit_with v.factor s degree (fit_by (SearchSpread t')) o))
         → (f₂ : Fit) × ((r₂ ≡ Fitted f₂) × ((f₂.poles ≤ f₁.poles) × ((x : Float) → f₁.mark ≡ Spread x → (y : Float) × (f₂.mark ≡ Spread y))))
-    go (Stop c) o a b = absurd (refusal c (stopped c (fit_with s degree (fit_by (SearchSpread t)) o) r₁ degree a))
-    go Pass none a b = absurd (refusal _ (confused s degree (fit_by (SearchSpread t)) r₁ a))
-    go Pass (some params) a b = fits_again s degree params t t' r₁ r₂ f₁ h e (spread-answer s degree params t r₁ a) (spread-answer s degree params t' r₂ b)
+    go (Stop c) o a b = absurd (refusal c (stopped c (fit_with v.factor s degree (fit_by (SearchSpread t)) o) r₁ degree a))
+    go Pass none a b = absurd (refusal _ (confused v.factor s degree (fit_by (SearchSpread t)) r₁ a))
+    go Pass (some params) a b = fits_again v.factor s degree params t t' r₁ r₂ f₁ h e (spread-answer v.factor s degree params t r₁ a) (spread-answer v.factor s degree params t' r₂ b)

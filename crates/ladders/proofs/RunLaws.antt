@@ -22,7 +22,7 @@ use Rattle.bspline.specs.declared.Refusal.{Refusal}
 use Rattle.bspline.specs.declared.Refusal.TheVariants.{ConfusedPoints}
 use Rattle.bspline.specs.declared.Verdict.{Verdict}
 use Rattle.bspline.specs.declared.Verdict.TheVariants.{Pass, Stop}
-use Rattle.knots.specs.declared.Spacing.{Spacing}
+use Rattle.knots.specs.declared.Metric.{Metric}
 use Rattle.knots.specs.Parameters.{point_parameters}
 use Rattle.knots.specs.Lines.{line_of}
 use Rattle.knots.proofs.LineLaws.{ladder-same}
@@ -112,9 +112,9 @@ module _ {j : Job} {points w w' : List Float} {index index' : List ℕ} {fit : R
       out w w' index index')
 
 -- the regions of a ladder lie in the slices that document 01 asks for
-pub has-ladder_job : (n p : ℕ) (points work : List Float) (index : List ℕ) → 1 ≤ p → p ≤ 25 → p < n → n ≤ 1024 → 3 * n ≤ length points
-    → 4 * p * n + 16 * n + 64 ≤ length work → 4 * n ≤ length index → HasJob (ladder_job n p) points work index
-has-ladder_job n p points work index low high under few given room firsts = record {
+pub has-ladder_job : (f : Float) (n p : ℕ) (points work : List Float) (index : List ℕ) → 1 ≤ p → p ≤ 25 → p < n → n ≤ 1024 → 3 * n ≤ length points
+    → 4 * p * n + 16 * n + 64 ≤ length work → 4 * n ≤ length index → HasJob (ladder_job f n p) points work index
+has-ladder_job f n p points work index low high under few given room firsts = record {
   low = low;
   high = high;
   under = under;
@@ -141,20 +141,20 @@ has-ladder_job n p points work index low high under few given room firsts = reco
   firsts_in = omega arith;
 }
 
-pub direction_is : (n p : ℕ) (s w : List Float) (index : List ℕ) → direction_of (ladder_job n p) s w index ≡ ladder s p (take n w)
+pub direction_is : (f : Float) (n p : ℕ) (s w : List Float) (index : List ℕ) → direction_of (ladder_job f n p) s w index ≡ ladder f s p (take n w)
 unfolding direction_of distances_by deviations_by within_by data_point ladder
-direction_is n p s w index = let z : 0 + n - 0 ≡ n = omega arith in ap (λ (k : ℕ). ladder s p (take k w)) z
+direction_is f n p s w index = let z : 0 + n - 0 ≡ n = omega arith in ap (λ (k : ℕ). ladder f s p (take k w)) z
 
 -- ---- with the parameters, or 5
 
-module _ (v : Spacing) (s : List Float) (degree : ℕ) (fit : Direction → Result) where
+module _ (v : Metric) (s : List Float) (degree : ℕ) (fit : Direction → Result) where
   pub passed_none : point_parameters v (length s / 3) (line_of s 0 1) ≡ none → ladder_fit v s degree fit ≡ refused ConfusedPoints
   unfolding ladder_fit fit_with
-  passed_none e = ap (fit_with s degree fit) (sym (ladder-same v (length s / 3) s) ∙ e)
+  passed_none e = ap (fit_with v.factor s degree fit) (sym (ladder-same v (length s / 3) s) ∙ e)
 
-  pub passed-some : (params : List Float) → point_parameters v (length s / 3) (line_of s 0 1) ≡ some params → ladder_fit v s degree fit ≡ fit (ladder s degree params)
+  pub passed-some : (params : List Float) → point_parameters v (length s / 3) (line_of s 0 1) ≡ some params → ladder_fit v s degree fit ≡ fit (ladder v.factor s degree params)
   unfolding ladder_fit fit_with
-  passed-some params e = ap (fit_with s degree fit) (sym (ladder-same v (length s / 3) s) ∙ e)
+  passed-some params e = ap (fit_with v.factor s degree fit) (sym (ladder-same v (length s / 3) s) ∙ e)
 
 -- ---- a whole call
 
@@ -163,8 +163,8 @@ unfolding answer_number answer_of result_number
 answer_number-answer_of degree (refused c) = refl
 answer_number-answer_of degree (accepted a) = refl
 
-module _ (call : Call) (s : List Float) (degree : ℕ) (v : Spacing) where
-  pub call-refused : (c : Refusal) (l : Lent) → Stop c ≡ ladder_checks call s degree l → LadderCall call s degree v l l (Refused c)
+module _ (call : Call) (s : List Float) (degree : ℕ) (v : Metric) where
+  pub call-refused : (c : Refusal) (l : Lent) → Stop c ≡ ladder_checks call s degree v l → LadderCall call s degree v l l (Refused c)
   unfolding result_of checked answer_of answer_number result_number handed cleared
   call-refused c l e =
       let q : result_of call s degree v l ≡ refused c = ap (λ (w : Verdict). checked w (ladder_fit v s degree (fit_by call))) (sym e) in
@@ -176,7 +176,7 @@ module _ (call : Call) (s : List Float) (degree : ℕ) (v : Spacing) where
       }
 
   pub call_passed : {poles poles' flat flat' knots knots' work work₁ : List Float} {mults mults' index index₁ : List ℕ} {r : Answer}
-      → Pass ≡ ladder_checks call s degree (lent poles flat knots mults work index)
+      → Pass ≡ ladder_checks call s degree v (lent poles flat knots mults work index)
       → HandsOut degree (ladder_fit v s degree (fit_by call)) (lent poles flat knots mults work index) (lent poles' flat' knots' mults' work₁ index₁) r
       → (work' : List Float) (index' : List ℕ) → work' ≡ replicate (length work) nought → index' ≡ replicate (length index) 0
       → LadderCall call s degree v (lent poles flat knots mults work index) (lent poles' flat' knots' mults' work' index') r

@@ -9,7 +9,7 @@ use Rattle.bspline.specs.declared.Refusal.TheVariants.{ConfusedPoints}
 use Rattle.bspline.specs.declared.Verdict.{Verdict}
 use Rattle.bspline.specs.declared.Verdict.TheVariants.{Pass, Stop}
 use Rattle.bspline.specs.Refusals.{number_of}
-use Rattle.knots.specs.declared.Spacing.{Spacing}
+use Rattle.knots.specs.declared.Metric.{Metric}
 use Rattle.knots.specs.Parameters.{point_parameters}
 use Rattle.knots.specs.Knots.{distinct_knots, knot_at, multiplicity_at}
 use Rattle.tables.specs.BasisTable.{basis_table}
@@ -30,20 +30,20 @@ use Rattle.making.specs.Results.{Result, refused, accepted, fit_by}
 -- ---- what comes of a ladder that passes the checks: 5, then 6, or a fit
 
 -- with the parameters, or 5 where neighbours are confused
-unfoldable pub fit_with : List Float → ℕ → (Direction → Result) → Option (List Float) → Result
-fit_with s degree fit none = refused ConfusedPoints
-fit_with s degree fit (some params) = fit (ladder s degree params)
+unfoldable pub fit_with : Float → List Float → ℕ → (Direction → Result) → Option (List Float) → Result
+fit_with f s degree fit none = refused ConfusedPoints
+fit_with f s degree fit (some params) = fit (ladder f s degree params)
 
-unfoldable pub ladder_fit : Spacing → List Float → ℕ → (Direction → Result) → Result
-ladder_fit v s degree fit = fit_with s degree fit (point_parameters v (point_count s) (point_at s))
+unfoldable pub ladder_fit : Metric → List Float → ℕ → (Direction → Result) → Result
+ladder_fit v s degree fit = fit_with v.factor s degree fit (point_parameters v (point_count s) (point_at s))
 
 -- the checks, and then the fit
 unfoldable pub checked : Verdict → Result → Result
 checked Pass r = r
 checked (Stop c) r = refused c
 
-unfoldable pub result_of : Call → List Float → ℕ → Spacing → Lent → Result
-result_of call s degree v l = checked (ladder_checks call s degree l) (ladder_fit v s degree (fit_by call))
+unfoldable pub result_of : Call → List Float → ℕ → Metric → Lent → Result
+result_of call s degree v l = checked (ladder_checks call s degree v l) (ladder_fit v s degree (fit_by call))
 
 -- ---- what is handed back
 
@@ -88,22 +88,22 @@ pub record HandsOut (degree : ℕ) (fit : Result) (l l' : Lent) (r : Answer) : T
   pub mults : l'.mults ≡ handed_mults fit l.mults
 
 -- The contract of a ladder call.
-pub record LadderCall (call : Call) (s : List Float) (degree : ℕ) (v : Spacing) (l l' : Lent) (r : Answer) : Type 0 where
+pub record LadderCall (call : Call) (s : List Float) (degree : ℕ) (v : Metric) (l l' : Lent) (r : Answer) : Type 0 where
   pub hands : HandsOut degree (result_of call s degree v l) l l' r
   pub number : answer_number r ≡ result_number (result_of call s degree v l)
-  pub work : l'.work ≡ cleared nought (ladder_checks call s degree l) l.work
-  pub index : l'.index ≡ cleared 0 (ladder_checks call s degree l) l.index
+  pub work : l'.work ≡ cleared nought (ladder_checks call s degree v l) l.work
+  pub index : l'.index ≡ cleared 0 (ladder_checks call s degree v l) l.index
 
 -- the ladder with its parameters; where there are none, with no parameters
-unfoldable pub ladder_of : Spacing → List Float → ℕ → Direction
-ladder_of v s degree = ladder s degree (params_or (point_parameters v (point_count s) (point_at s)))
+unfoldable pub ladder_of : Metric → List Float → ℕ → Direction
+ladder_of v s degree = ladder v.factor s degree (params_or (point_parameters v (point_count s) (point_at s)))
 
 -- Demand 3 of what a ladder call hands out: the deviations are those of the knots and poles that stand in the output slices at exit.
 -- `refinement` is none where the call has no refinement.
-module _ (v : Spacing) (s : List Float) (degree : ℕ) where
+module _ (v : Metric) (s : List Float) (degree : ℕ) where
   abbrev pub handed_distances : Fit → Lent → List Float
   handed_distances f l =
-      ladder_distances (basis_table (take (f.poles + degree + 1) l.flat) degree (ladder_of v s degree).params) (take (3 * f.poles) l.poles) s
+      ladder_distances v.factor (basis_table (take (f.poles + degree + 1) l.flat) degree (ladder_of v s degree).params) (take (3 * f.poles) l.poles) s
 
   pub record LadderKept (t : Float) (refinement : Option Candidate) (l' : Lent) (r : Answer) : Type 0 where
     pub refined_within : (f : Fit) (x : Float) → r ≡ Fitted f → f.mark ≡ Refined x → NoneAbove t (handed_distances f l')
@@ -116,26 +116,26 @@ module _ (v : Spacing) (s : List Float) (degree : ℕ) where
 -- ---- the contracts
 
 -- `interpolate`
-pub record Interpolates (s : List Float) (degree : ℕ) (v : Spacing) (l l' : Lent) (r : Answer) : Type 0 where
+pub record Interpolates (s : List Float) (degree : ℕ) (v : Metric) (l l' : Lent) (r : Answer) : Type 0 where
   pub call : LadderCall Interpolate s degree v l l' r
 
 -- `approximate`, with a chosen pole count
-pub record Approximates (s : List Float) (degree count : ℕ) (v : Spacing) (l l' : Lent) (r : Answer) : Type 0 where
+pub record Approximates (s : List Float) (degree count : ℕ) (v : Metric) (l l' : Lent) (r : Answer) : Type 0 where
   pub call : LadderCall (Approximate count) s degree v l l' r
 
 -- `approximate_within`, with demand 3
-pub record ApproximatesWithin (s : List Float) (degree : ℕ) (t : Float) (v : Spacing) (l l' : Lent) (r : Answer) : Type 0 where
+pub record ApproximatesWithin (s : List Float) (degree : ℕ) (t : Float) (v : Metric) (l l' : Lent) (r : Answer) : Type 0 where
   pub call : LadderCall (ApproximateWithin t) s degree v l l' r
   pub kept : LadderKept v s degree t (fit_with_refined_knots (ladder_of v s degree) t) l' r
 
 -- the spread search alone, with demand 3
-pub record SearchesSpread (s : List Float) (degree : ℕ) (t : Float) (v : Spacing) (l l' : Lent) (r : Answer) : Type 0 where
+pub record SearchesSpread (s : List Float) (degree : ℕ) (t : Float) (v : Metric) (l l' : Lent) (r : Answer) : Type 0 where
   pub call : LadderCall (SearchSpread t) s degree v l l' r
   pub kept : LadderKept v s degree t none l' r
 
 -- The second half of demand 3: two calls of the spread search alone on the same ladder and with the same slices lent, the first tolerance at or below the second.
 abbrev pub SpreadNeverMorePoles : Type 0
 SpreadNeverMorePoles =
-    (s : List Float) (degree : ℕ) (v : Spacing) (t t' : Float) (l l₁ l₂ : Lent) (r₁ r₂ : Answer) (f₁ : Fit)
+    (s : List Float) (degree : ℕ) (v : Metric) (t t' : Float) (l l₁ l₂ : Lent) (r₁ r₂ : Answer) (f₁ : Fit)
     → SearchesSpread s degree t v l l₁ r₁ → SearchesSpread s degree t' v l l₂ r₂ → le t t' ≡ true → r₁ ≡ Fitted f₁
     → (f₂ : Fit) × ((r₂ ≡ Fitted f₂) × ((f₂.poles ≤ f₁.poles) × ((x : Float) → f₁.mark ≡ Spread x → (y : Float) × (f₂.mark ≡ Spread y))))

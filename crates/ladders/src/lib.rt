@@ -12,7 +12,7 @@ ghost use Rattle.ladders.specs.LadderJob.{ladder_job};
 use bspline::{Refusal, Verdict};
 use checks::{Call, Room};
 use fitting::{Fit, Job};
-use knots::Spacing;
+use knots::Metric;
 use making::Made;
 use tables::{Data, Table};
 
@@ -23,15 +23,16 @@ pub enum Answer {
     Refused(Refusal),
 }
 
-// The regions of n points of a degree.
-fn ladder_job(n: usize, degree: usize) -> Job
+// The regions of n points of a degree, and the lightness factor.
+fn ladder_job(n: usize, degree: usize, factor: f64) -> Job
     requires { (n ≤ 1024) × (degree ≤ 25) }
-    ensures { result ≡ ladder_job n degree }
+    ensures { result ≡ ladder_job factor n degree }
 {
     let values = n + (n + degree + 1);
     let band = values + n * (degree + 1);
     let poles = band + 2 * (degree * n);
     let deviations = poles + 3 * n;
+    let fresh = deviations + n;
     Job {
         table: Table {
             degree,
@@ -52,13 +53,14 @@ fn ladder_job(n: usize, degree: usize) -> Job
             firsts: 0,
             values: 0,
         },
+        factor,
         params: 0,
         flat: n,
         band,
         poles,
         curve: deviations,
         deviations,
-        fresh: deviations + n,
+        fresh,
     }
 }
 
@@ -103,7 +105,7 @@ fn hand_made(
 fn fit_passed(
     points: &[f64],
     degree: usize,
-    spacing: Spacing,
+    metric: Metric,
     call: Call,
     poles: &mut [f64],
     flat: &mut [f64],
@@ -114,15 +116,15 @@ fn fit_passed(
 ) -> Answer
     requires shaped { Shaped (length points.now) degree × (count_verdict call (length points.now / 3) degree ≡ Pass) }
     requires roomy { Roomy (length points.now / 3) degree (room_of (lent poles.old flat.old knots.old mults.old work.old index.old)) }
-    ensures { HandsOut degree (ladder_fit spacing points.now degree (fit_by call))
+    ensures { HandsOut degree (ladder_fit metric points.now degree (fit_by call))
         (lent poles.old flat.old knots.old mults.old work.old index.old)
         (lent poles.new flat.new knots.new mults.new work.new index.new) result }
 {
     let n = points.len() / 3;
-    if !knots::parameters::point_parameters(points, 0, 1, n, spacing, work) {
+    if !knots::parameters::point_parameters(points, 0, 1, n, metric, work) {
         return Answer::Refused(Refusal::ConfusedPoints);
     }
-    let job = ladder_job(n, degree);
+    let job = ladder_job(n, degree, metric.factor);
     hand_made(points, job, call, poles, flat, knots, mults, work, index)
 }
 
@@ -130,7 +132,7 @@ fn fit_passed(
 pub fn fit_ladder(
     points: &[f64],
     degree: usize,
-    spacing: Spacing,
+    metric: Metric,
     call: Call,
     poles: &mut [f64],
     flat: &mut [f64],
@@ -139,7 +141,7 @@ pub fn fit_ladder(
     work: &mut [f64],
     index: &mut [usize],
 ) -> Answer
-    ensures { LadderCall call points.now degree spacing
+    ensures { LadderCall call points.now degree metric
         (lent poles.old flat.old knots.old mults.old work.old index.old)
         (lent poles.new flat.new knots.new mults.new work.new index.new) result }
 {
@@ -152,11 +154,11 @@ pub fn fit_ladder(
         index: index.len(),
     };
     let counts = checks::ladder::check_count(call, points.len() / 3, degree);
-    match checks::ladder::check_ladder(points, degree, counts, room) {
+    match checks::ladder::check_ladder(points, degree, counts, room, metric.factor) {
         Verdict::Stop(c) => Answer::Refused(c),
         Verdict::Pass => {
             let r = fit_passed(
-                points, degree, spacing, call, poles, flat, knots, mults, work, index,
+                points, degree, metric, call, poles, flat, knots, mults, work, index,
             );
             places::clear(work);
             places::clear_index(index);
@@ -169,7 +171,7 @@ pub fn fit_ladder(
 pub fn interpolate(
     points: &[f64],
     degree: usize,
-    spacing: Spacing,
+    metric: Metric,
     poles: &mut [f64],
     flat: &mut [f64],
     knots: &mut [f64],
@@ -177,13 +179,13 @@ pub fn interpolate(
     work: &mut [f64],
     index: &mut [usize],
 ) -> Answer
-    ensures { Interpolates points.now degree spacing
+    ensures { Interpolates points.now degree metric
         (lent poles.old flat.old knots.old mults.old work.old index.old)
         (lent poles.new flat.new knots.new mults.new work.new index.new) result }
 {
     let call = Call::Interpolate;
     fit_ladder(
-        points, degree, spacing, call, poles, flat, knots, mults, work, index,
+        points, degree, metric, call, poles, flat, knots, mults, work, index,
     )
 }
 
@@ -192,7 +194,7 @@ pub fn approximate(
     points: &[f64],
     degree: usize,
     count: usize,
-    spacing: Spacing,
+    metric: Metric,
     poles: &mut [f64],
     flat: &mut [f64],
     knots: &mut [f64],
@@ -200,13 +202,13 @@ pub fn approximate(
     work: &mut [f64],
     index: &mut [usize],
 ) -> Answer
-    ensures { Approximates points.now degree count spacing
+    ensures { Approximates points.now degree count metric
         (lent poles.old flat.old knots.old mults.old work.old index.old)
         (lent poles.new flat.new knots.new mults.new work.new index.new) result }
 {
     let call = Call::Approximate(count);
     fit_ladder(
-        points, degree, spacing, call, poles, flat, knots, mults, work, index,
+        points, degree, metric, call, poles, flat, knots, mults, work, index,
     )
 }
 
@@ -215,7 +217,7 @@ pub fn approximate_within(
     points: &[f64],
     degree: usize,
     tolerance: f64,
-    spacing: Spacing,
+    metric: Metric,
     poles: &mut [f64],
     flat: &mut [f64],
     knots: &mut [f64],
@@ -223,13 +225,13 @@ pub fn approximate_within(
     work: &mut [f64],
     index: &mut [usize],
 ) -> Answer
-    ensures { ApproximatesWithin points.now degree tolerance spacing
+    ensures { ApproximatesWithin points.now degree tolerance metric
         (lent poles.old flat.old knots.old mults.old work.old index.old)
         (lent poles.new flat.new knots.new mults.new work.new index.new) result }
 {
     let call = Call::ApproximateWithin(tolerance);
     fit_ladder(
-        points, degree, spacing, call, poles, flat, knots, mults, work, index,
+        points, degree, metric, call, poles, flat, knots, mults, work, index,
     )
 }
 
@@ -238,7 +240,7 @@ pub fn search_spread(
     points: &[f64],
     degree: usize,
     tolerance: f64,
-    spacing: Spacing,
+    metric: Metric,
     poles: &mut [f64],
     flat: &mut [f64],
     knots: &mut [f64],
@@ -246,12 +248,12 @@ pub fn search_spread(
     work: &mut [f64],
     index: &mut [usize],
 ) -> Answer
-    ensures { SearchesSpread points.now degree tolerance spacing
+    ensures { SearchesSpread points.now degree tolerance metric
         (lent poles.old flat.old knots.old mults.old work.old index.old)
         (lent poles.new flat.new knots.new mults.new work.new index.new) result }
 {
     let call = Call::SearchSpread(tolerance);
     fit_ladder(
-        points, degree, spacing, call, poles, flat, knots, mults, work, index,
+        points, degree, metric, call, poles, flat, knots, mults, work, index,
     )
 }

@@ -1,3 +1,3 @@
 -- A spacing by a bool, and layouts by their numbers.
-pub mod Spacings
+pub mod Metrics
 pub mod Fits

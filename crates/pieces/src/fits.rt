@@ -1,6 +1,7 @@
 // The functions over a table and lines of data; a layout comes as its numbers.
 ghost use Rattle.std.specs.Prelude.{◌≡◌, ◌+◌, ◌*◌, ◌≤◌, length, set};
 ghost use Rattle.places.specs.Regions.{part, splice};
+ghost use Rattle.geometry.specs.Doubles.{one};
 ghost use Rattle.tables.specs.BasisTable.{basis_table};
 ghost use Rattle.solving.specs.LeastSquares.{least_squares};
 ghost use Rattle.tables.specs.Deviations.{ladder_distances, row_distances, point_deviations, largest_over_rows, largest_over_columns};
@@ -128,10 +129,10 @@ pub extern "C" fn pieces_ladder_deviations(
     most: &mut [f64],
 ) -> usize
     requires { HasFit (table_of degree count firsts values) 1 m poles out count work.old index.now × (3 * count ≤ length points.now) × (1 ≤ length most.old) }
-    ensures value { result ≡ (measured (ladder_distances (table_in (table_of degree count firsts values) work.old index.now) (part poles (poles + 3 * m) work.old) points.now)).unreadable }
-    ensures most_after { most.new ≡ set most.old 0 (measured (ladder_distances (table_in (table_of degree count firsts values) work.old index.now) (part poles (poles + 3 * m) work.old) points.now)).largest }
-    ensures leaves_squares { LeavesSquares count out out point_deviations (ladder_distances (table_in (table_of degree count firsts values) work.old index.now) (part poles (poles + 3 * m) work.old) points.now) work.old work.new
-        (measured (ladder_distances (table_in (table_of degree count firsts values) work.old index.now) (part poles (poles + 3 * m) work.old) points.now)) }
+    ensures value { result ≡ (measured (ladder_distances one (table_in (table_of degree count firsts values) work.old index.now) (part poles (poles + 3 * m) work.old) points.now)).unreadable }
+    ensures most_after { most.new ≡ set most.old 0 (measured (ladder_distances one (table_in (table_of degree count firsts values) work.old index.now) (part poles (poles + 3 * m) work.old) points.now)).largest }
+    ensures leaves_squares { LeavesSquares count out out point_deviations (ladder_distances one (table_in (table_of degree count firsts values) work.old index.now) (part poles (poles + 3 * m) work.old) points.now) work.old work.new
+        (measured (ladder_distances one (table_in (table_of degree count firsts values) work.old index.now) (part poles (poles + 3 * m) work.old) points.now)) }
 {
     let table = Table {
         degree: degree,
@@ -139,7 +140,9 @@ pub extern "C" fn pieces_ladder_deviations(
         firsts: firsts,
         values: values,
     };
-    let measured = tables::deviations::ladder_deviations(work, index, points, table, m, poles, out);
+    let measured = tables::deviations::ladder_deviations(
+        work, index, points, 1.0, table, m, poles, out,
+    );
     most[0] = measured.largest;
     measured.unreadable
 }
@@ -160,10 +163,10 @@ pub extern "C" fn pieces_row_deviations(
     most: &mut [f64],
 ) -> usize
     requires { HasFit (table_of degree count firsts values) rows m poles out count work.old index.now × (3 * (rows * count) ≤ length points.now) × (1 ≤ length most.old) }
-    ensures value { result ≡ (measured (row_distances rows (table_in (table_of degree count firsts values) work.old index.now) m (part poles (poles + 3 * (rows * m)) work.old) points.now)).unreadable }
-    ensures most_after { most.new ≡ set most.old 0 (measured (row_distances rows (table_in (table_of degree count firsts values) work.old index.now) m (part poles (poles + 3 * (rows * m)) work.old) points.now)).largest }
-    ensures leaves_squares { LeavesSquares count out out (largest_over_rows rows count) (row_distances rows (table_in (table_of degree count firsts values) work.old index.now) m (part poles (poles + 3 * (rows * m)) work.old) points.now) work.old work.new
-        (measured (row_distances rows (table_in (table_of degree count firsts values) work.old index.now) m (part poles (poles + 3 * (rows * m)) work.old) points.now)) }
+    ensures value { result ≡ (measured (row_distances one rows (table_in (table_of degree count firsts values) work.old index.now) m (part poles (poles + 3 * (rows * m)) work.old) points.now)).unreadable }
+    ensures most_after { most.new ≡ set most.old 0 (measured (row_distances one rows (table_in (table_of degree count firsts values) work.old index.now) m (part poles (poles + 3 * (rows * m)) work.old) points.now)).largest }
+    ensures leaves_squares { LeavesSquares count out out (largest_over_rows rows count) (row_distances one rows (table_in (table_of degree count firsts values) work.old index.now) m (part poles (poles + 3 * (rows * m)) work.old) points.now) work.old work.new
+        (measured (row_distances one rows (table_in (table_of degree count firsts values) work.old index.now) m (part poles (poles + 3 * (rows * m)) work.old) points.now)) }
 {
     let table = Table {
         degree: degree,
@@ -172,7 +175,7 @@ pub extern "C" fn pieces_row_deviations(
         values: values,
     };
     let measured = tables::deviations::row_deviations(
-        work, index, points, table, rows, m, poles, out,
+        work, index, points, 1.0, table, rows, m, poles, out,
     );
     most[0] = measured.largest;
     measured.unreadable
@@ -200,10 +203,10 @@ pub extern "C" fn pieces_grid_deviations(
     most: &mut [f64],
 ) -> usize
     requires { HasGrid (table_of pu nu fu wu) (table_of pv nv fv wv) columns m poles curve out points.now work.old index.now × (1 ≤ length most.old) }
-    ensures value { result ≡ (measured (grid_distances_in (table_of pu nu fu wu) (table_of pv nv fv wv) columns m poles points.now work.old index.now)).unreadable }
-    ensures most_after { most.new ≡ set most.old 0 (measured (grid_distances_in (table_of pu nu fu wu) (table_of pv nv fv wv) columns m poles points.now work.old index.now)).largest }
-    ensures leaves_squares { LeavesSquares nu curve out (largest_over_columns nu nv) (grid_distances_in (table_of pu nu fu wu) (table_of pv nv fv wv) columns m poles points.now work.old index.now) work.old work.new
-        (measured (grid_distances_in (table_of pu nu fu wu) (table_of pv nv fv wv) columns m poles points.now work.old index.now)) }
+    ensures value { result ≡ (measured (grid_distances_in one (table_of pu nu fu wu) (table_of pv nv fv wv) columns m poles points.now work.old index.now)).unreadable }
+    ensures most_after { most.new ≡ set most.old 0 (measured (grid_distances_in one (table_of pu nu fu wu) (table_of pv nv fv wv) columns m poles points.now work.old index.now)).largest }
+    ensures leaves_squares { LeavesSquares nu curve out (largest_over_columns nu nv) (grid_distances_in one (table_of pu nu fu wu) (table_of pv nv fv wv) columns m poles points.now work.old index.now) work.old work.new
+        (measured (grid_distances_in one (table_of pu nu fu wu) (table_of pv nv fv wv) columns m poles points.now work.old index.now)) }
 {
     let u = Table {
         degree: pu,
@@ -218,7 +221,7 @@ pub extern "C" fn pieces_grid_deviations(
         values: wv,
     };
     let measured = tables::deviations::grid_deviations(
-        work, index, points, u, v, columns, m, poles, curve, out,
+        work, index, points, 1.0, u, v, columns, m, poles, curve, out,
     );
     most[0] = measured.largest;
     measured.unreadable

@@ -17,11 +17,11 @@ ghost use Rattle.knots.specs.Parameters.{point_parameters, shared_parameters};
 ghost use Rattle.knots.specs.Knots.{averaged_knots, approximation_knots};
 ghost use Rattle.knots.specs.Lines.{line_of, lines_of};
 ghost use Rattle.knots.specs.Calls.{HasLine, HasLines, Found, KnotRegions, HasRoom, Compressed};
-ghost use Rattle.pieces.specs.Spacings.{spacing_of};
+ghost use Rattle.pieces.specs.Metrics.{metric_of};
 
 pub mod fits;
 
-use knots::Spacing;
+use knots::{Metric, Spacing};
 
 #[unsafe(no_mangle)]
 pub extern "C" fn pieces_sqrt(x: f64) -> f64
@@ -61,13 +61,18 @@ pub extern "C" fn pieces_curve_point(
     geometry::put_point(out, 0, q);
 }
 
-fn spacing(centripetal: bool) -> Spacing
-    ensures { result ≡ spacing_of centripetal }
+// The spacing, with the lightness factor 1.
+fn metric(centripetal: bool) -> Metric
+    ensures { result ≡ metric_of centripetal }
 {
-    if centripetal {
+    let spacing = if centripetal {
         Spacing::Centripetal
     } else {
         Spacing::Chordal
+    };
+    Metric {
+        spacing,
+        factor: 1.0,
     }
 }
 
@@ -81,9 +86,9 @@ pub extern "C" fn pieces_point_parameters(
     out: &mut [f64],
 ) -> bool
     requires { HasLine points.now start stride n × (n ≤ length out.old) }
-    ensures { Found (point_parameters (spacing_of centripetal) n (line_of points.now start stride)) n n out.old out.new result }
+    ensures { Found (point_parameters (metric_of centripetal) n (line_of points.now start stride)) n n out.old out.new result }
 {
-    knots::parameters::point_parameters(points, start, stride, n, spacing(centripetal), out)
+    knots::parameters::point_parameters(points, start, stride, n, metric(centripetal), out)
 }
 
 #[unsafe(no_mangle)]
@@ -97,9 +102,9 @@ pub extern "C" fn pieces_shared_parameters(
     out: &mut [f64],
 ) -> bool
     requires { HasLines points.now lines pitch n stride × (n + n ≤ length out.old) }
-    ensures { Found (shared_parameters (spacing_of centripetal) lines n (lines_of points.now pitch stride)) n (n + n) out.old out.new result }
+    ensures { Found (shared_parameters (metric_of centripetal) lines n (lines_of points.now pitch stride)) n (n + n) out.old out.new result }
 {
-    knots::parameters::shared_parameters(points, lines, pitch, n, stride, spacing(centripetal), out)
+    knots::parameters::shared_parameters(points, lines, pitch, n, stride, metric(centripetal), out)
 }
 
 #[unsafe(no_mangle)]

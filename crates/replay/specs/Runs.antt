@@ -1,6 +1,7 @@
 -- What is lent to a call, what it comes to, and what is counted. Definitions only.
 use Rattle.std.specs.Prelude.{ℕ, ◌+◌, ◌-◌, ◌*◌, ◌/◌, ◌≤◌, ◌≡◌, Bool, cond, List, ◌⊎◌, eqb, ltb, length, Float}
 use Rattle.places.specs.Places.{list_of}
+use Rattle.knots.specs.Parameters.{plain_metric}
 use Rattle.checks.specs.declared.Room.{Room}
 use Rattle.ladders.specs.declared.Answer.{Answer}
 use Rattle.checks.specs.LadderChecks.{Lent}
@@ -60,7 +61,7 @@ compared answer w a degree poles flat knots mults listed.Damaged = turn.Damaged
 -- a case on the points s: the call's own contract holds of its answer and of the slices l as lent and l' at exit, and the turn is that answer beside the list's
 pub record Ran (w : List ℕ) (c : Case) (s : List Float) (l l' : Lent) (r : Turn) : Type 0 where
   pub answer : Answer
-  pub call : LadderCall c.call s c.degree c.spacing l l' answer
+  pub call : LadderCall c.call s c.degree (plain_metric c.spacing) l l' answer
   pub turn : r ≡ compared answer w (c.start + c.given) c.degree l'.poles l'.flat l'.knots l'.mults (listed_at w (c.start + c.given) c.degree)
 
 -- the lent slices have these lengths

@@ -5,6 +5,7 @@ ghost use Rattle.replay_list.specs.Listed.{listed_at, Placed};
 ghost use Rattle.replay.specs.Runs.{turn_of, compared, capped as cappedAt, needed, Fits, Lending, Ran, RanOn, TurnAt, first_of, TalliedAs};
 
 use checks::Room;
+use knots::Metric;
 use ladders::Answer;
 use replay_list::answers::Listed;
 use replay_list::cases::{Case, Found};
@@ -110,8 +111,12 @@ fn run_case(
     let call = case.call;
     let spacing = case.spacing;
     let degree = case.degree;
+    let metric = Metric {
+        spacing,
+        factor: 1.0,
+    };
     let answer = ladders::fit_ladder(
-        points, degree, spacing, call, poles, flat, knots, mults, work, index,
+        points, degree, metric, call, poles, flat, knots, mults, work, index,
     );
     let start = case.start + case.given;
     compare(answer, words, start, degree, poles, flat, knots, mults)

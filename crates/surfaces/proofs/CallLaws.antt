@@ -8,7 +8,7 @@ use Rattle.geometry.specs.Doubles.{nought}
 use Rattle.bspline.specs.declared.Refusal.{Refusal}
 use Rattle.bspline.specs.declared.Verdict.{Verdict}
 use Rattle.bspline.specs.declared.Verdict.TheVariants.{Pass, Stop}
-use Rattle.knots.specs.declared.Spacing.{Spacing}
+use Rattle.knots.specs.declared.Metric.{Metric}
 use Rattle.checks.specs.LadderChecks.{cleared}
 use Rattle.checks.specs.declared.Shape.{Shape}
 use Rattle.checks.specs.declared.SurfaceCall.{SurfaceCall}
@@ -18,7 +18,7 @@ use Rattle.checks.specs.GridChecks.{grid_of, GridLent, grid_lent, grid_room_of, 
 use Rattle.grids.specs.Grids.{GridResult, grid_refused, grid_accepted, grid_checked, grid_fit, grid_result_of, grid_answer_of, grid_answer_number, grid_result_number, HandsOutGrid, GridCall}
 use Rattle.grids.proofs.GridRunLaws.{grid-refused}
 
-module _ (call : SurfaceCall) (points : List Float) (h : Shape) (v : Spacing) where
+module _ (call : SurfaceCall) (points : List Float) (h : Shape) (v : Metric) where
   grid_answer_number-grid_answer_of : (fit : GridResult) → grid_answer_number (grid_answer_of h fit) ≡ grid_result_number fit
   unfolding grid_answer_number grid_answer_of grid_result_number
   grid_answer_number-grid_answer_of (grid_refused c) = refl

@@ -16,7 +16,7 @@ use Rattle.bspline.specs.declared.Refusal.{Refusal}
 use Rattle.bspline.specs.declared.Refusal.TheVariants.{ConfusedPoints}
 use Rattle.bspline.specs.declared.Verdict.{Verdict}
 use Rattle.bspline.specs.declared.Verdict.TheVariants.{Pass, Stop}
-use Rattle.knots.specs.declared.Spacing.{Spacing}
+use Rattle.knots.specs.declared.Metric.{Metric}
 use Rattle.knots.specs.Parameters.{Lines, added_lines, from_zero_to_one, shared_parameters}
 use Rattle.knots.specs.Knots.{averaged_knot, averaged_knots}
 use Rattle.knots.proofs.ParameterLaws.{unless-some, length-zero_to-one}
@@ -92,7 +92,7 @@ fewest_sound d lawful t h = go (fit_with_refined_knots d t) refl
         (λ x. sound-refined d f i)
 
 -- ---- lengths
-pub shared_long : (v : Spacing) (lines n : ℕ) (point : ℕ → ℕ → Point) (params : List Float) → shared_parameters v lines n point ≡ some params → length params ≡ n
+pub shared_long : (v : Metric) (lines n : ℕ) (point : ℕ → ℕ → Point) (params : List Float) → shared_parameters v lines n point ≡ some params → length params ≡ n
 unfolding shared_parameters
 shared_long v lines n point params e =
     let added : Lines = added_lines v lines n point in
@@ -108,36 +108,36 @@ record GridKeptBy (d : Direction) (distances : GridFit → List Float) (t : Floa
   one_below_fails : (f : GridFit) (x : Float) → r ≡ Fitted f → f.u.mark ≡ Spread x → Fails d t (f.u.poles - 1)
 
 -- ---- an accepted grid
-u_lawful : (g : Grid) (us vs : List Float) (v : Candidate) → Lawful (along_u g.points g.shape us vs v)
+u_lawful : (g : Grid) (us vs : List Float) (v : Candidate) → Lawful (along_u g.metric.factor g.points g.shape us vs v)
 unfolding along_u
-u_lawful g us vs v = columns_lawful g.points (basis_table v.flat g.shape.v vs) (pole_count g.shape.v v.flat) v.poles g.shape.u us
+u_lawful g us vs v = columns_lawful g.metric.factor g.points (basis_table v.flat g.shape.v vs) (pole_count g.shape.v v.flat) v.poles g.shape.u us
 
-v_lawful : (g : Grid) (vs : List Float) → Lawful (along_v g.points g.shape vs)
+v_lawful : (g : Grid) (vs : List Float) → Lawful (along_v g.metric.factor g.points g.shape vs)
 unfolding along_v
-v_lawful g vs = rows_lawful g.points g.shape.rows g.shape.v vs
+v_lawful g vs = rows_lawful g.metric.factor g.points g.shape.rows g.shape.v vs
 
-u_sound : (g : Grid) (us vs : List Float) (v : Candidate) (t : Float) → g.shape.u + 1 ≤ length us → Sound (along_u g.points g.shape us vs v) (fit_within_fewest (along_u g.points g.shape us vs v) t)
+u_sound : (g : Grid) (us vs : List Float) (v : Candidate) (t : Float) → g.shape.u + 1 ≤ length us → Sound (along_u g.metric.factor g.points g.shape us vs v) (fit_within_fewest (along_u g.metric.factor g.points g.shape us vs v) t)
 unfolding along_u grid_columns
-u_sound g us vs v t h = fewest_sound (along_u g.points g.shape us vs v) (u_lawful g us vs v) t h
+u_sound g us vs v t h = fewest_sound (along_u g.metric.factor g.points g.shape us vs v) (u_lawful g us vs v) t h
 
 v_sized : (g : Grid) (vs : List Float) (t : Float) → g.shape.v + 1 ≤ length vs
     → (g.shape.v + 1 ≤ length (unmarked (rows_within g t vs)).flat) × (length (unmarked (rows_within g t vs)).flat ≤ length vs + g.shape.v + 1)
 unfolding rows_within along_v grid_rows
-v_sized g vs t h = let s = (fewest_sound (along_v g.points g.shape vs) (v_lawful g vs) (row_share ⊗ t) h).sized in (s.low, s.high)
+v_sized g vs t h = let s = (fewest_sound (along_v g.metric.factor g.points g.shape vs) (v_lawful g vs) (row_share ⊗ t) h).sized in (s.low, s.high)
 
 module _ (g : Grid) (t : Float) (l l' : GridLent) (us vs : List Float) (n : length us ≡ g.shape.rows) (m : length vs ≡ g.shape.cols) (shaped : GridShaped (length g.points) g.shape) (room : GridRoomy g.shape (grid_room_of l)) (degrees : Degrees g.shape) where
   abbrev marked_v : Marked
   marked_v = rows_within g t vs
 
   abbrev along_u' : Direction
-  along_u' = along_u g.points g.shape us vs (unmarked marked_v)
+  along_u' = along_u g.metric.factor g.points g.shape us vs (unmarked marked_v)
 
   abbrev marked_u : Marked
   marked_u = fit_within_fewest along_u' t
 
   distances_of : GridFit → List Float
   distances_of f =
-      grid_distances
+      grid_distances g.metric.factor
       (basis_table (take (f.u.poles + g.shape.u + 1) l'.u_flat) g.shape.u us)
       (basis_table (take (f.v.poles + g.shape.v + 1) l'.v_flat) g.shape.v vs)
       f.v.poles
@@ -245,7 +245,7 @@ module _ (g : Grid) (t : Float) (l l' : GridLent) (r : GridAnswer) where
       → GridKept g t l' r
   unfolding grid_checked grid_fit_with fit_grid_by rows_within row_aim column_aim fit_to after_rows beside_rows grid_answer_of grid_handed distances_of
   passed-kept us vs p q shaped room degrees a b c d =
-      let k = accepted-kept g t l l' us vs (shared_long g.spacing g.shape.cols g.shape.rows _ us p) (shared_long g.spacing g.shape.rows g.shape.cols _ vs q) shaped room degrees b c d r a in
+      let k = accepted-kept g t l l' us vs (shared_long g.metric g.shape.cols g.shape.rows _ us p) (shared_long g.metric g.shape.rows g.shape.cols _ vs q) shaped room degrees b c d r a in
       record {
         refined_within = λ f x e m. rw (p, q) (k.refined_within f x e m);
         spread_within = λ f x e m. rw (p, q) (k.spread_within f x e m);

@@ -7,13 +7,13 @@ ghost use Rattle.grids.specs.Grids.{GridCall, ApproximatesGrid, ApproximatesGrid
 use bspline::Verdict;
 use checks::{GridRoom, Shape, SurfaceCall};
 use grids::GridAnswer;
-use knots::Spacing;
+use knots::Metric;
 
 // Either of the calls.
 pub fn fit_grid(
     points: &[f64],
     shape: Shape,
-    spacing: Spacing,
+    metric: Metric,
     call: SurfaceCall,
     poles: &mut [f64],
     uflat: &mut [f64],
@@ -25,7 +25,7 @@ pub fn fit_grid(
     work: &mut [f64],
     index: &mut [usize],
 ) -> GridAnswer
-    ensures { GridCall call (grid_of points.now shape spacing)
+    ensures { GridCall call (grid_of points.now shape metric)
         (grid_lent poles.old uflat.old uknots.old umults.old vflat.old vknots.old vmults.old work.old index.old)
         (grid_lent poles.new uflat.new uknots.new umults.new vflat.new vknots.new vmults.new work.new index.new) result }
 {
@@ -40,11 +40,11 @@ pub fn fit_grid(
         work: work.len(),
         index: index.len(),
     };
-    match checks::grid::check_grid(points, shape, room) {
+    match checks::grid::check_grid(points, shape, room, metric.factor) {
         Verdict::Stop(c) => GridAnswer::Refused(c),
         Verdict::Pass => {
             let r = grids::fits::fit_passed(
-                points, shape, spacing, call, poles, uflat, uknots, umults, vflat, vknots, vmults,
+                points, shape, metric, call, poles, uflat, uknots, umults, vflat, vknots, vmults,
                 work, index,
             );
             places::clear(work);
@@ -60,7 +60,7 @@ pub fn approximate(
     shape: Shape,
     ucount: usize,
     vcount: usize,
-    spacing: Spacing,
+    metric: Metric,
     poles: &mut [f64],
     uflat: &mut [f64],
     uknots: &mut [f64],
@@ -71,13 +71,13 @@ pub fn approximate(
     work: &mut [f64],
     index: &mut [usize],
 ) -> GridAnswer
-    ensures { ApproximatesGrid (grid_of points.now shape spacing) ucount vcount
+    ensures { ApproximatesGrid (grid_of points.now shape metric) ucount vcount
         (grid_lent poles.old uflat.old uknots.old umults.old vflat.old vknots.old vmults.old work.old index.old)
         (grid_lent poles.new uflat.new uknots.new umults.new vflat.new vknots.new vmults.new work.new index.new) result }
 {
     let call = SurfaceCall::Approximate(ucount, vcount);
     fit_grid(
-        points, shape, spacing, call, poles, uflat, uknots, umults, vflat, vknots, vmults, work,
+        points, shape, metric, call, poles, uflat, uknots, umults, vflat, vknots, vmults, work,
         index,
     )
 }
@@ -87,7 +87,7 @@ pub fn approximate_within(
     points: &[f64],
     shape: Shape,
     tolerance: f64,
-    spacing: Spacing,
+    metric: Metric,
     poles: &mut [f64],
     uflat: &mut [f64],
     uknots: &mut [f64],
@@ -98,13 +98,13 @@ pub fn approximate_within(
     work: &mut [f64],
     index: &mut [usize],
 ) -> GridAnswer
-    ensures { ApproximatesGridWithin (grid_of points.now shape spacing) tolerance
+    ensures { ApproximatesGridWithin (grid_of points.now shape metric) tolerance
         (grid_lent poles.old uflat.old uknots.old umults.old vflat.old vknots.old vmults.old work.old index.old)
         (grid_lent poles.new uflat.new uknots.new umults.new vflat.new vknots.new vmults.new work.new index.new) result }
 {
     let call = SurfaceCall::ApproximateWithin(tolerance);
     fit_grid(
-        points, shape, spacing, call, poles, uflat, uknots, umults, vflat, vknots, vmults, work,
+        points, shape, metric, call, poles, uflat, uknots, umults, vflat, vknots, vmults, work,
         index,
     )
 }

@@ -70,13 +70,13 @@ module _ (S : ℕ → ℕ → Float) (held : (i j : ℕ) → T (fits binary64 (S
   row-rooted i h = rooted-largest cols (S i) (held i) ∙ ap largest (list_of-same cols _ _ (λ j l. root-at i j h l))
 
 -- ---- a grid's rows against their own poles
-module _ (t : Table) (index : List ℕ) (points : List Float) (rows m poles out : ℕ) where
+module _ (f : Float) (t : Table) (index : List ℕ) (points : List Float) (rows m poles out : ℕ) where
   -- point j of row i: its place on the fit, and the square of its distance
   abbrev row_point : List Float → ℕ → ℕ → Point
   row_point w i j = table_point (table_in t w index) (part poles (poles + 3 * (rows * m)) w) (i * m) j
 
   abbrev pub row_square : List Float → ℕ → ℕ → Float
-  row_square w = square_from_line (table_in t w index) m (part poles (poles + 3 * (rows * m)) w) points t.count
+  row_square w = square_from_line f (table_in t w index) m (part poles (poles + 3 * (rows * m)) w) points t.count
 
   -- the largest square of each column over the first i rows
   abbrev pub column_largest : List Float → ℕ → ℕ → Float
@@ -86,7 +86,7 @@ module _ (t : Table) (index : List ℕ) (points : List Float) (rows m poles out 
   point-kept w w' x k i j = read_kept out (out + t.count) w w' k t index poles (poles + 3 * (rows * m)) (i * m) j x.values_before (omega arith) x.poles_before
 
   square-kept : (w w' : List Float) → HasFit t rows m poles out t.count w index → Kept out (out + t.count) w w' → (i j : ℕ) → row_square w' i j ≡ row_square w i j
-  square-kept w w' x k i j = ap (λ (p : Point). squared_distance p (point_at points (i * t.count + j))) (point-kept w w' x k i j)
+  square-kept w w' x k i j = ap (λ (p : Point). squared_distance f p (point_at points (i * t.count + j))) (point-kept w w' x k i j)
 
   pub row-measured : (w w' : List Float) (i : ℕ) (row : Measured) → HasFit t rows m poles out t.count w index → w' ≡ laid out t.count (column_largest w i) w
       → row ≡ squares_measured (list_of t.count (row_square w' i)) → row ≡ squares_measured (list_of t.count (row_square w i))
@@ -115,21 +115,21 @@ module _ (t : Table) (index : List ℕ) (points : List Float) (rows m poles out 
 
   -- the definition's distances are the roots
   rows_inside : (w₀ w : List Float) → HasFit t rows m poles out t.count w₀ index → Kept out (out + t.count) w₀ w
-      → row_distances rows (table_in t w₀ index) m (part poles (poles + 3 * (rows * m)) w₀) points ≡ Rows (λ i j. sqrt_of (row_square w i j)) t.count rows
+      → row_distances f rows (table_in t w₀ index) m (part poles (poles + 3 * (rows * m)) w₀) points ≡ Rows (λ i j. sqrt_of (row_square w i j)) t.count rows
   unfolding row_distances
   rows_inside w₀ w x k =
       rw (count_in t w₀ index x.table.firsts_in)
       (joined_same rows _ _ (λ i h. list_of-same t.count _ (λ j. sqrt_of (row_square w i j))
-      (λ j l. distance_root (row_point w₀ i j) (point_at points (i * t.count + j)) ∙ ap sqrt_of (sym (square-kept w₀ w x k i j)))))
+      (λ j l. distance_root f (row_point w₀ i j) (point_at points (i * t.count + j)) ∙ ap sqrt_of (sym (square-kept w₀ w x k i j)))))
 
   pub rows_done : (w₀ w w₁ : List Float) (total r : Measured) → HasFit t rows m poles out t.count w₀ index → w ≡ laid out t.count (λ (k : ℕ). nought) w₀
       → w₁ ≡ laid out t.count (column_largest w rows) w → total ≡ squares_measured (Rows (row_square w) t.count rows) → r ≡ rooted total
-      → LeavesSquares t.count out out (largest_over_rows rows t.count) (row_distances rows (table_in t w₀ index) m (part poles (poles + 3 * (rows * m)) w₀) points) w₀ w₁ r
+      → LeavesSquares t.count out out (largest_over_rows rows t.count) (row_distances f rows (table_in t w₀ index) m (part poles (poles + 3 * (rows * m)) w₀) points) w₀ w₁ r
   rows_done w₀ w w₁ total r x e e₁ g h =
       let n : ℕ = t.count in
       let kept : Kept out (out + n) w₀ w = rw e (kept-laid out n (λ (k : ℕ). nought) w₀ x.room) in
       let room : out + n ≤ length w = omega (arith, x.room, kept.long) in
-      let held : (i j : ℕ) → T (fits binary64 (row_square w i j)) = λ i j. squared-fits (row_point w i j) (point_at points (i * n + j)) in
+      let held : (i j : ℕ) → T (fits binary64 (row_square w i j)) = λ i j. squared-fits f (row_point w i j) (point_at points (i * n + j)) in
       let found = rows_inside w₀ w x kept in
       record {
         measures = rows-rooted (row_square w) held rows n _ found total r g h;
@@ -180,12 +180,12 @@ curve_inside u columns m poles i h =
     (λ a j. refl)
     (λ a j. let z : l * m + (first u i + a) ≡ l * m + first u i + a = omega arith in transposed-at columns m poles (first u i + a) l (omega arith) g ∙ ap (point_at poles) z))
 
-module _ (u v : Table) (index : List ℕ) (points : List Float) (columns m poles curve out : ℕ) where
+module _ (f : Float) (u v : Table) (index : List ℕ) (points : List Float) (columns m poles curve out : ℕ) where
   abbrev pub curve_in : List Float → ℕ → List Float
   curve_in w i = curve_of (table_in u w index) columns m (part poles (poles + 3 * (columns * m)) w) i
 
   abbrev pub grid_square : List Float → ℕ → ℕ → Float
-  grid_square w i j = squared_distance (table_point (table_in v w index) (curve_in w i) 0 j) (point_at points (i * v.count + j))
+  grid_square w i j = squared_distance f (table_point (table_in v w index) (curve_in w i) 0 j) (point_at points (i * v.count + j))
 
   abbrev pub row_largest : List Float → ℕ → Float
   row_largest w i = largest (list_of v.count (grid_square w i))
@@ -199,7 +199,7 @@ module _ (u v : Table) (index : List ℕ) (points : List Float) (columns m poles
   pub grid-turn : (w w₁ w₂ : List Float) (total row more : Measured) (i : ℕ) → HasGrid u v columns m poles curve out points w index → i < u.count
       → GridTo w w₁ total i
       → w₂ ≡ splice curve (curve + 3 * columns) (curve_in w₁ i) w₁
-      → row ≡ squares_measured (list_of v.count (λ j. squared_distance (table_point (table_in v w₂ index) (part curve (curve + 3 * columns) w₂) 0 j) (point_at points (i * v.count + j))))
+      → row ≡ squares_measured (list_of v.count (λ j. squared_distance f (table_point (table_in v w₂ index) (part curve (curve + 3 * columns) w₂) 0 j) (point_at points (i * v.count + j))))
       → more ≡ with_all total row
       → GridTo w (set w₂ (out + i) row.largest) more (i + 1)
   unfolding squares_measured
@@ -236,21 +236,21 @@ module _ (u v : Table) (index : List ℕ) (points : List Float) (columns m poles
 
   -- the definition's distances are the roots
   grid_in : (w : List Float) → HasGrid u v columns m poles curve out points w index
-      → grid_distances_in u v columns m poles points w index ≡ Rows (λ i j. sqrt_of (grid_square w i j)) v.count u.count
+      → grid_distances_in f u v columns m poles points w index ≡ Rows (λ i j. sqrt_of (grid_square w i j)) v.count u.count
   unfolding grid_distances
   grid_in w x =
       rw (count_in u w index x.fit.table.firsts_in, count_in v w index x.across.firsts_in)
       (joined_same u.count _ (λ i. list_of v.count (λ j. sqrt_of (grid_square w i j)))
       (λ i h. list_of-same v.count _ (λ j. sqrt_of (grid_square w i j))
-      (λ j l. ap (λ (c : List Float). distance (table_point (table_in v w index) c 0 j) (point_at points (i * v.count + j))) (curve_inside (table_in u w index) columns m (part poles (poles + 3 * (columns * m)) w) i (rw degree_in (x.fit.table.poles i h)))
-      ∙ distance_root (table_point (table_in v w index) (curve_in w i) 0 j) (point_at points (i * v.count + j)))))
+      (λ j l. ap (λ (c : List Float). distance f (table_point (table_in v w index) c 0 j) (point_at points (i * v.count + j))) (curve_inside (table_in u w index) columns m (part poles (poles + 3 * (columns * m)) w) i (rw degree_in (x.fit.table.poles i h)))
+      ∙ distance_root f (table_point (table_in v w index) (curve_in w i) 0 j) (point_at points (i * v.count + j)))))
 
   pub grid_done : (w w' : List Float) (total r : Measured) → HasGrid u v columns m poles curve out points w index → GridTo w w' total u.count → r ≡ rooted total
-      → LeavesSquares u.count curve out (largest_over_columns u.count v.count) (grid_distances_in u v columns m poles points w index) w w' r
+      → LeavesSquares u.count curve out (largest_over_columns u.count v.count) (grid_distances_in f u v columns m poles points w index) w w' r
   grid_done w w' total r x g h =
       let rows : ℕ = u.count in
       let held : (i j : ℕ) → T (fits binary64 (grid_square w i j)) =
-      λ i j. squared-fits (table_point (table_in v w index) (curve_in w i) 0 j) (point_at points (i * v.count + j)) in
+      λ i j. squared-fits f (table_point (table_in v w index) (curve_in w i) 0 j) (point_at points (i * v.count + j)) in
       let found = grid_in w x in
       let room : out + rows ≤ length w' = omega (arith, x.fit.room, x.behind, g.kept.long) in
       let size : length (part out (out + rows) w') ≡ rows = length_part out (out + rows) w' room ∙ omega arith in

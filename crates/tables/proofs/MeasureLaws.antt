@@ -86,14 +86,14 @@ part-laid_region a n f w h =
     ap (part a (a + n)) (laid_region a n f w h) ∙ part-splice a (a + n) (list_of n f) w (omega arith) h (length-list_of n f ∙ omega arith)
 
 -- a ladder's distances are the roots of their squares
-abbrev pub ladder_square : BasisTable → List Float → List Float → ℕ → Float
-ladder_square t poles s k = squared_distance (table_point t poles 0 k) (point_at s k)
+abbrev pub ladder_square : Float → BasisTable → List Float → List Float → ℕ → Float
+ladder_square f t poles s k = squared_distance f (table_point t poles 0 k) (point_at s k)
 
-module _ (t : BasisTable) (poles s : List Float) where
-  pub ladder-rooted : ladder_distances t poles s ≡ roots_of (list_of (parameter_count t) (ladder_square t poles s))
+module _ (f : Float) (t : BasisTable) (poles s : List Float) where
+  pub ladder-rooted : ladder_distances f t poles s ≡ roots_of (list_of (parameter_count t) (ladder_square f t poles s))
   unfolding ladder_distances
   ladder-rooted =
-      sym (roots-list_of (parameter_count t) (ladder_square t poles s) ∙ list_of-same (parameter_count t) _ _ (λ k h. sym (distance_root (table_point t poles 0 k) (point_at s k))))
+      sym (roots-list_of (parameter_count t) (ladder_square f t poles s) ∙ list_of-same (parameter_count t) _ _ (λ k h. sym (distance_root f (table_point t poles 0 k) (point_at s k))))
 
-  pub ladder-held : (n : ℕ) → Held (list_of n (ladder_square t poles s))
-  ladder-held n = held-list_of n (ladder_square t poles s) (λ k. squared-fits (table_point t poles 0 k) (point_at s k))
+  pub ladder-held : (n : ℕ) → Held (list_of n (ladder_square f t poles s))
+  ladder-held n = held-list_of n (ladder_square f t poles s) (λ k. squared-fits f (table_point t poles 0 k) (point_at s k))

@@ -38,8 +38,8 @@ pub record LeavesSquares (n from out : ℕ) (deviations_of : List Float → List
   pub kept : Kept from (out + n) w w'
 
 -- point j of row i of s, `cols` points a row: the square of its distance from the row's own m poles
-abbrev pub square_from_line : BasisTable → ℕ → List Float → List Float → ℕ → ℕ → ℕ → Float
-square_from_line t m poles s cols i j = squared_distance (table_point t poles (i * m) j) (point_at s (i * cols + j))
+abbrev pub square_from_line : Float → BasisTable → ℕ → List Float → List Float → ℕ → ℕ → ℕ → Float
+square_from_line f t m poles s cols i j = squared_distance f (table_point t poles (i * m) j) (point_at s (i * cols + j))
 
 -- the poles of the v curve at u parameter i, of columns' poles that stand line after line, m to a column
 abbrev pub curve_of : BasisTable → ℕ → ℕ → List Float → ℕ → List Float
@@ -53,6 +53,6 @@ pub record HasGrid (u v : Table) (columns m poles curve out : ℕ) (points work 
   pub behind : out ≡ curve + 3 * columns
   pub given : 3 * (u.count * v.count) ≤ length points
 
-abbrev pub grid_distances_in : Table → Table → ℕ → ℕ → ℕ → List Float → List Float → List ℕ → List Float
-grid_distances_in u v columns m poles points work index =
-    grid_distances (table_in u work index) (table_in v work index) columns (transposed columns m (part poles (poles + 3 * (columns * m)) work)) points
+abbrev pub grid_distances_in : Float → Table → Table → ℕ → ℕ → ℕ → List Float → List Float → List ℕ → List Float
+grid_distances_in f u v columns m poles points work index =
+    grid_distances f (table_in u work index) (table_in v work index) columns (transposed columns m (part poles (poles + 3 * (columns * m)) work)) points

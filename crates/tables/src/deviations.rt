@@ -76,13 +76,14 @@ pub fn ladder_deviations(
     work: &mut [f64],
     index: &[usize],
     points: &[f64],
+    factor: f64,
     table: Table,
     m: usize,
     poles: usize,
     out: usize,
 ) -> Measured
     requires { HasFit table 1 m poles out table.count work.old index.now × (3 * table.count ≤ length points.now) }
-    ensures { LeavesSquares table.count out out point_deviations (ladder_distances (table_in table work.old index.now) (part poles (poles + 3 * m) work.old) points.now) work.old work.new result }
+    ensures { LeavesSquares table.count out out point_deviations (ladder_distances factor (table_in table work.old index.now) (part poles (poles + 3 * m) work.old) points.now) work.old work.new result }
 {
     let count = table.count;
     let end = poles + 3 * m;
@@ -92,7 +93,7 @@ pub fn ladder_deviations(
     };
     for k in 0..count {
         let q = table_point(work, index, table, poles, end, 0, k);
-        let s = q.squared_distance(geometry::point_at(points, k));
+        let s = q.squared_distance(geometry::point_at(points, k), factor);
         total = with_square(total, s);
         work[out + k] = s;
     }
@@ -104,6 +105,7 @@ fn row_squares(
     work: &mut [f64],
     index: &[usize],
     points: &[f64],
+    factor: f64,
     table: Table,
     rows: usize,
     m: usize,
@@ -112,8 +114,8 @@ fn row_squares(
     out: usize,
 ) -> Measured
     requires { HasFit table rows m poles out table.count work.old index.now × (i < rows) × (3 * (rows * table.count) ≤ length points.now) }
-    ensures value { result ≡ squares_measured (list_of table.count (square_from_line (table_in table work.old index.now) m (part poles (poles + 3 * (rows * m)) work.old) points.now table.count i)) }
-    ensures work_after { work.new ≡ laid out table.count (λ j. larger (at work.old (out + j)) (square_from_line (table_in table work.old index.now) m (part poles (poles + 3 * (rows * m)) work.old) points.now table.count i j)) work.old }
+    ensures value { result ≡ squares_measured (list_of table.count (square_from_line factor (table_in table work.old index.now) m (part poles (poles + 3 * (rows * m)) work.old) points.now table.count i)) }
+    ensures work_after { work.new ≡ laid out table.count (λ j. larger (at work.old (out + j)) (square_from_line factor (table_in table work.old index.now) m (part poles (poles + 3 * (rows * m)) work.old) points.now table.count i j)) work.old }
 {
     let count = table.count;
     let end = poles + 3 * (rows * m);
@@ -125,7 +127,7 @@ fn row_squares(
     };
     for j in 0..count {
         let q = table_point(work, index, table, poles, end, start, j);
-        let s = q.squared_distance(geometry::point_at(points, first + j));
+        let s = q.squared_distance(geometry::point_at(points, first + j), factor);
         total = with_square(total, s);
         work[out + j] = geometry::doubles::max(work[out + j], s);
     }
@@ -137,6 +139,7 @@ pub fn row_deviations(
     work: &mut [f64],
     index: &[usize],
     points: &[f64],
+    factor: f64,
     table: Table,
     rows: usize,
     m: usize,
@@ -144,7 +147,7 @@ pub fn row_deviations(
     out: usize,
 ) -> Measured
     requires { HasFit table rows m poles out table.count work.old index.now × (3 * (rows * table.count) ≤ length points.now) }
-    ensures { LeavesSquares table.count out out (largest_over_rows rows table.count) (row_distances rows (table_in table work.old index.now) m (part poles (poles + 3 * (rows * m)) work.old) points.now) work.old work.new result }
+    ensures { LeavesSquares table.count out out (largest_over_rows rows table.count) (row_distances factor rows (table_in table work.old index.now) m (part poles (poles + 3 * (rows * m)) work.old) points.now) work.old work.new result }
 {
     let count = table.count;
     places::fill(work, out, count, 0.0);
@@ -153,7 +156,7 @@ pub fn row_deviations(
         unreadable: 0,
     };
     for i in 0..rows {
-        let row = row_squares(work, index, points, table, rows, m, i, poles, out);
+        let row = row_squares(work, index, points, factor, table, rows, m, i, poles, out);
         total = with_all(total, row);
     }
     rooted(total)
@@ -186,13 +189,14 @@ fn curve_squares(
     work: &[f64],
     index: &[usize],
     points: &[f64],
+    factor: f64,
     v: Table,
     columns: usize,
     i: usize,
     curve: usize,
 ) -> Measured
     requires { HasTable v columns work.now index.now × (curve + 3 * columns ≤ length work.now) × (3 * (i * v.count + v.count) ≤ length points.now) }
-    ensures { result ≡ squares_measured (list_of v.count (λ j. squared_distance (table_point (table_in v work.now index.now) (part curve (curve + 3 * columns) work.now) 0 j) (point_at points.now (i * v.count + j)))) }
+    ensures { result ≡ squares_measured (list_of v.count (λ j. squared_distance factor (table_point (table_in v work.now index.now) (part curve (curve + 3 * columns) work.now) 0 j) (point_at points.now (i * v.count + j)))) }
 {
     let count = v.count;
     let end = curve + 3 * columns;
@@ -203,7 +207,7 @@ fn curve_squares(
     };
     for j in 0..count {
         let q = table_point(work, index, v, curve, end, 0, j);
-        let s = q.squared_distance(geometry::point_at(points, first + j));
+        let s = q.squared_distance(geometry::point_at(points, first + j), factor);
         total = with_square(total, s);
     }
     total
@@ -214,6 +218,7 @@ pub fn grid_deviations(
     work: &mut [f64],
     index: &[usize],
     points: &[f64],
+    factor: f64,
     u: Table,
     v: Table,
     columns: usize,
@@ -223,7 +228,7 @@ pub fn grid_deviations(
     out: usize,
 ) -> Measured
     requires { HasGrid u v columns m poles curve out points.now work.old index.now }
-    ensures { LeavesSquares u.count curve out (largest_over_columns u.count v.count) (grid_distances_in u v columns m poles points.now work.old index.now) work.old work.new result }
+    ensures { LeavesSquares u.count curve out (largest_over_columns u.count v.count) (grid_distances_in factor u v columns m poles points.now work.old index.now) work.old work.new result }
 {
     let rows = u.count;
     let mut total = Measured {
@@ -232,7 +237,7 @@ pub fn grid_deviations(
     };
     for i in 0..rows {
         curve_poles(work, index, u, columns, m, i, poles, curve);
-        let row = curve_squares(work, index, points, v, columns, i, curve);
+        let row = curve_squares(work, index, points, factor, v, columns, i, curve);
         work[out + i] = row.largest;
         total = with_all(total, row);
     }

@@ -12,7 +12,7 @@ use Rattle.geometry.specs.Doubles.{nought}
 use Rattle.bspline.specs.declared.Refusal.{Refusal}
 use Rattle.bspline.specs.declared.Verdict.{Verdict}
 use Rattle.bspline.specs.declared.Verdict.TheVariants.{Pass, Stop}
-use Rattle.knots.specs.declared.Spacing.{Spacing}
+use Rattle.knots.specs.declared.Metric.{Metric}
 use Rattle.checks.specs.declared.Call.{Call}
 use Rattle.checks.specs.declared.Call.TheVariants.{ApproximateWithin, SearchSpread}
 use Rattle.ladders.specs.declared.Answer.{Answer}
@@ -35,17 +35,17 @@ pub enough : (largest : List Float) (counts : List ℕ) → 1 ≤ length largest
 enough largest counts h k =
     ap (λ (b : Bool). not b && not (ltb (length counts) 4)) (le-ltb (length largest) 1 h) ∙ ap not (le-ltb (length counts) 4 k)
 
-module _ (call : Call) (s : List Float) (degree : ℕ) (v : Spacing) where
+module _ (call : Call) (s : List Float) (degree : ℕ) (v : Metric) where
   -- with nothing lent the checks stop
-  pub stops : ladder_checks call s degree nothing ≡ Pass → ⊥
-  stops e = let g = checks_give call s degree nothing e in omega (arith, g.0.least, g.2.for_poles)
+  pub stops : ladder_checks call s degree v nothing ≡ Pass → ⊥
+  stops e = let g = checks_give call s degree v nothing e in omega (arith, g.0.least, g.2.for_poles)
 
-  pub stopped-number : (c : Refusal) → Stop c ≡ ladder_checks call s degree nothing → result_number (refused c) ≡ result_number (result_of call s degree v nothing)
+  pub stopped-number : (c : Refusal) → Stop c ≡ ladder_checks call s degree v nothing → result_number (refused c) ≡ result_number (result_of call s degree v nothing)
   unfolding result_of checked
   stopped-number c e = ap (λ (w : Verdict). result_number (checked w (ladder_fit v s degree (fit_by call)))) e
 
   -- judged with nothing lent, the call is refused and touches nothing
-  refused_untouched : (w : Verdict) → ladder_checks call s degree nothing ≡ w → (l : Lent) (largest : List Float) (counts : List ℕ) (r : ℕ) → r ≡ result_number (result_of call s degree v nothing)
+  refused_untouched : (w : Verdict) → ladder_checks call s degree v nothing ≡ w → (l : Lent) (largest : List Float) (counts : List ℕ) (r : ℕ) → r ≡ result_number (result_of call s degree v nothing)
       → ToldBy nothing call s degree v l l largest largest counts counts r
   unfolding result_of checked answer_of handed cleared
   refused_untouched Pass e l largest counts r n = absurd (stops e)
@@ -65,7 +65,7 @@ module _ (call : Call) (s : List Float) (degree : ℕ) (v : Spacing) where
       → Told call s degree v l l largest largest counts counts r
   told-short l largest counts r e n =
       subst (λ (b : Bool). ToldBy (cond b l nothing) call s degree v l l largest largest counts counts r) (sym e)
-      (refused_untouched (ladder_checks call s degree nothing) refl l largest counts r n)
+      (refused_untouched (ladder_checks call s degree v nothing) refl l largest counts r n)
 
   -- room
   pub told-room : (l l' : Lent) (largest largest' : List Float) (counts counts' : List ℕ) (a : Answer) (r : ℕ) → tellable largest counts ≡ true → LadderCall call s degree v l l' a
@@ -83,12 +83,12 @@ module _ (call : Call) (s : List Float) (degree : ℕ) (v : Spacing) where
       })
 
   -- what passes the checks as it is judged passes them as it is lent
-  lends : (b : Bool) (l : Lent) → ladder_checks call s degree (cond b l nothing) ≡ Pass → ladder_checks call s degree l ≡ Pass
+  lends : (b : Bool) (l : Lent) → ladder_checks call s degree v (cond b l nothing) ≡ Pass → ladder_checks call s degree v l ≡ Pass
   lends true l e = e
   lends false l e = absurd (stops e)
 
 -- so the calls within a tolerance keep demand 3
-module _ (s : List Float) (degree : ℕ) (t : Float) (v : Spacing) (l l' : Lent) (largest largest' : List Float) (counts counts' : List ℕ) (r : ℕ) where
+module _ (s : List Float) (degree : ℕ) (t : Float) (v : Metric) (l l' : Lent) (largest largest' : List Float) (counts counts' : List ℕ) (r : ℕ) where
   pub told-within : Told (ApproximateWithin t) s degree v l l' largest largest' counts counts' r → ToldWithin s degree t v l l' largest largest' counts counts' r
   told-within x = record { call = x; kept = within-handed s degree t v l l' _ (judged l largest counts) (lends (ApproximateWithin t) s degree v (tellable largest counts) l) x.hands }
 

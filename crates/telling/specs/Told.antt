@@ -2,7 +2,7 @@
 use Rattle.std.specs.Prelude.{◌≡◌, Bool, cond, not, ◌&&◌, List, [], ℕ, ◌+◌, ltb, length, set, Float}
 use Rattle.std.proofs.Math.Option.{none}
 use Rattle.geometry.specs.Doubles.{nought}
-use Rattle.knots.specs.declared.Spacing.{Spacing}
+use Rattle.knots.specs.declared.Metric.{Metric}
 use Rattle.checks.specs.declared.Call.{Call}
 use Rattle.checks.specs.declared.Call.TheVariants.{ApproximateWithin, SearchSpread}
 use Rattle.fitting.specs.declared.Fit.{Fit}
@@ -38,23 +38,23 @@ told_counts (Refused c) xs = xs
 told_counts (Fitted f) xs = put_fit 0 f xs
 
 -- What a ladder call for C leaves, judged by the slices m.
-pub record ToldBy (m : Lent) (call : Call) (s : List Float) (degree : ℕ) (v : Spacing) (l l' : Lent) (largest largest' : List Float) (counts counts' : List ℕ) (r : ℕ) : Type 0 where
+pub record ToldBy (m : Lent) (call : Call) (s : List Float) (degree : ℕ) (v : Metric) (l l' : Lent) (largest largest' : List Float) (counts counts' : List ℕ) (r : ℕ) : Type 0 where
   pub number : r ≡ result_number (result_of call s degree v m)
   pub hands : HandsOut degree (result_of call s degree v m) l l' (answer_of degree (result_of call s degree v m))
-  pub work : l'.work ≡ cleared nought (ladder_checks call s degree m) l.work
-  pub index : l'.index ≡ cleared 0 (ladder_checks call s degree m) l.index
+  pub work : l'.work ≡ cleared nought (ladder_checks call s degree v m) l.work
+  pub index : l'.index ≡ cleared 0 (ladder_checks call s degree v m) l.index
   pub most : largest' ≡ told_largest (answer_of degree (result_of call s degree v m)) largest
   pub told : counts' ≡ told_counts (answer_of degree (result_of call s degree v m)) counts
 
 -- The contract of a ladder call for C.
-abbrev pub Told : Call → List Float → ℕ → Spacing → Lent → Lent → List Float → List Float → List ℕ → List ℕ → ℕ → Type 0
+abbrev pub Told : Call → List Float → ℕ → Metric → Lent → Lent → List Float → List Float → List ℕ → List ℕ → ℕ → Type 0
 Told call s degree v l l' largest largest' counts counts' r = ToldBy (judged l largest counts) call s degree v l l' largest largest' counts counts' r
 
 -- The contracts of the two ladder calls within a tolerance for C: with demand 3 of the answer that is told, and of the knots and poles in the slices at exit.
-pub record ToldWithin (s : List Float) (degree : ℕ) (t : Float) (v : Spacing) (l l' : Lent) (largest largest' : List Float) (counts counts' : List ℕ) (r : ℕ) : Type 0 where
+pub record ToldWithin (s : List Float) (degree : ℕ) (t : Float) (v : Metric) (l l' : Lent) (largest largest' : List Float) (counts counts' : List ℕ) (r : ℕ) : Type 0 where
   pub call : Told (ApproximateWithin t) s degree v l l' largest largest' counts counts' r
   pub kept : LadderKept v s degree t (fit_with_refined_knots (ladder_of v s degree) t) l' (answer_of degree (result_of (ApproximateWithin t) s degree v (judged l largest counts)))
 
-pub record ToldSpread (s : List Float) (degree : ℕ) (t : Float) (v : Spacing) (l l' : Lent) (largest largest' : List Float) (counts counts' : List ℕ) (r : ℕ) : Type 0 where
+pub record ToldSpread (s : List Float) (degree : ℕ) (t : Float) (v : Metric) (l l' : Lent) (largest largest' : List Float) (counts counts' : List ℕ) (r : ℕ) : Type 0 where
   pub call : Told (SearchSpread t) s degree v l l' largest largest' counts counts' r
   pub kept : LadderKept v s degree t none l' (answer_of degree (result_of (SearchSpread t) s degree v (judged l largest counts)))

@@ -7,7 +7,7 @@ ghost use Rattle.telling.specs.ToldGrid.{told_grid_largest, told_grid_counts, no
 use bspline::Verdict;
 use checks::{GridRoom, Shape, SurfaceCall};
 use grids::GridAnswer;
-use knots::Spacing;
+use knots::Metric;
 
 // The number of an answer, with both marks and counts of a fit in the lent slices.
 fn tell_grid(answer: GridAnswer, largest: &mut [f64], counts: &mut [usize]) -> u32
@@ -29,8 +29,8 @@ fn tell_grid(answer: GridAnswer, largest: &mut [f64], counts: &mut [usize]) -> u
 }
 
 // The number of a call that has no room for its answer.
-fn grid_without_room(points: &[f64], shape: Shape, spacing: Spacing, call: SurfaceCall) -> u32
-    ensures { result ≡ grid_result_number (grid_result_of call (grid_of points.now shape spacing) no_grid) }
+fn grid_without_room(points: &[f64], shape: Shape, metric: Metric, call: SurfaceCall) -> u32
+    ensures { result ≡ grid_result_number (grid_result_of call (grid_of points.now shape metric) no_grid) }
 {
     let room = GridRoom {
         poles: 0,
@@ -43,7 +43,7 @@ fn grid_without_room(points: &[f64], shape: Shape, spacing: Spacing, call: Surfa
         work: 0,
         index: 0,
     };
-    match checks::grid::check_grid(points, shape, room) {
+    match checks::grid::check_grid(points, shape, room, metric.factor) {
         Verdict::Stop(c) => c.number(),
         Verdict::Pass => 9,
     }
@@ -53,7 +53,7 @@ fn grid_without_room(points: &[f64], shape: Shape, spacing: Spacing, call: Surfa
 pub fn call_grid(
     points: &[f64],
     shape: Shape,
-    spacing: Spacing,
+    metric: Metric,
     call: SurfaceCall,
     poles: &mut [f64],
     uflat: &mut [f64],
@@ -67,19 +67,19 @@ pub fn call_grid(
     largest: &mut [f64],
     counts: &mut [usize],
 ) -> u32
-    ensures { ToldGrid call (grid_of points.now shape spacing)
+    ensures { ToldGrid call (grid_of points.now shape metric)
         (grid_lent poles.old uflat.old uknots.old umults.old vflat.old vknots.old vmults.old work.old index.old)
         (grid_lent poles.new uflat.new uknots.new umults.new vflat.new vknots.new vmults.new work.new index.new)
         largest.old largest.new counts.old counts.new result }
 {
     if largest.len() < 2 {
-        return grid_without_room(points, shape, spacing, call);
+        return grid_without_room(points, shape, metric, call);
     }
     if counts.len() < 8 {
-        return grid_without_room(points, shape, spacing, call);
+        return grid_without_room(points, shape, metric, call);
     }
     let answer = surfaces::fit_grid(
-        points, shape, spacing, call, poles, uflat, uknots, umults, vflat, vknots, vmults, work,
+        points, shape, metric, call, poles, uflat, uknots, umults, vflat, vknots, vmults, work,
         index,
     );
     tell_grid(answer, largest, counts)

@@ -6,7 +6,7 @@ ghost use Rattle.telling.specs.Told.{told_largest, told_counts, nothing, Told};
 
 use bspline::Verdict;
 use checks::{Call, Room};
-use knots::Spacing;
+use knots::Metric;
 use ladders::Answer;
 
 // The number of an answer, with the mark and the counts of a fit in the lent slices.
@@ -26,8 +26,8 @@ fn tell(answer: Answer, largest: &mut [f64], counts: &mut [usize]) -> u32
 }
 
 // The number of a call that has no room for its answer.
-fn without_room(points: &[f64], degree: usize, spacing: Spacing, call: Call) -> u32
-    ensures { result ≡ result_number (result_of call points.now degree spacing nothing) }
+fn without_room(points: &[f64], degree: usize, metric: Metric, call: Call) -> u32
+    ensures { result ≡ result_number (result_of call points.now degree metric nothing) }
 {
     let room = Room {
         poles: 0,
@@ -38,7 +38,7 @@ fn without_room(points: &[f64], degree: usize, spacing: Spacing, call: Call) -> 
         index: 0,
     };
     let counts = checks::ladder::check_count(call, points.len() / 3, degree);
-    match checks::ladder::check_ladder(points, degree, counts, room) {
+    match checks::ladder::check_ladder(points, degree, counts, room, metric.factor) {
         Verdict::Stop(c) => c.number(),
         Verdict::Pass => 9,
     }
@@ -48,7 +48,7 @@ fn without_room(points: &[f64], degree: usize, spacing: Spacing, call: Call) -> 
 pub fn call_ladder(
     points: &[f64],
     degree: usize,
-    spacing: Spacing,
+    metric: Metric,
     call: Call,
     poles: &mut [f64],
     flat: &mut [f64],
@@ -59,19 +59,19 @@ pub fn call_ladder(
     largest: &mut [f64],
     counts: &mut [usize],
 ) -> u32
-    ensures { Told call points.now degree spacing
+    ensures { Told call points.now degree metric
         (lent poles.old flat.old knots.old mults.old work.old index.old)
         (lent poles.new flat.new knots.new mults.new work.new index.new)
         largest.old largest.new counts.old counts.new result }
 {
     if largest.len() < 1 {
-        return without_room(points, degree, spacing, call);
+        return without_room(points, degree, metric, call);
     }
     if counts.len() < 4 {
-        return without_room(points, degree, spacing, call);
+        return without_room(points, degree, metric, call);
     }
     let answer = ladders::fit_ladder(
-        points, degree, spacing, call, poles, flat, knots, mults, work, index,
+        points, degree, metric, call, poles, flat, knots, mults, work, index,
     );
     tell(answer, largest, counts)
 }

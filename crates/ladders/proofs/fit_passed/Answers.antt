@@ -17,8 +17,8 @@ pub returns-then-not-point_parameters : goal.returns-then-not-point_parameters
 returns-then-not-point_parameters c =
     let a = c.args in
     let q = c.point_parameters in
-    run-refused a.degree (ladder_fit a.spacing a.points.now a.degree (fit_by a.call)) ConfusedPoints
-    (passed_none a.spacing a.points.now a.degree (fit_by a.call) (found_none q.ensures (ap not c.if-not-point_parameters.true))) _ _ _ _
+    run-refused a.degree (ladder_fit a.metric a.points.now a.degree (fit_by a.call)) ConfusedPoints
+    (passed_none a.metric a.points.now a.degree (fit_by a.call) (found_none q.ensures (ap not c.if-not-point_parameters.true))) _ _ _ _
 
 pub hand_made-requires : goal.hand_made-requires
 hand_made-requires c =
@@ -31,7 +31,7 @@ hand_made-requires c =
     let r = c.requires.roomy in
     rw c.ladder_job-job.ensures (record {
       has_job = (
-        has-ladder_job n a.degree a.points.now w a.index.now p.low p.high (count_under a.call n a.degree c.requires.shaped.1 p.low) p.most (omega arith) (omega (arith, r.for_work)) r.for_index,
+        has-ladder_job a.metric.factor n a.degree a.points.now w a.index.now p.low p.high (count_under a.call n a.degree c.requires.shaped.1 p.low) p.most (omega arith) (omega (arith, r.for_work)) r.for_index,
         c.requires.shaped.1,
         refl,
       );
@@ -45,6 +45,6 @@ returns c =
     let j = c.ladder_job-job in
     let n = length a.points.now / 3 in
     let w = q.new.out in
-    run-same a.degree (ladder_fit a.spacing a.points.now a.degree (fit_by a.call))
-    (passed-some a.spacing a.points.now a.degree (fit_by a.call) (take n w) (found_some q.ensures (ap not c.if-not-point_parameters.false)) ∙ sym (ap (fit_by a.call) (direction_is n a.degree a.points.now w a.index.now)))
+    run-same a.degree (ladder_fit a.metric a.points.now a.degree (fit_by a.call))
+    (passed-some a.metric a.points.now a.degree (fit_by a.call) (take n w) (found_some q.ensures (ap not c.if-not-point_parameters.false)) ∙ sym (ap (fit_by a.call) (direction_is a.metric.factor n a.degree a.points.now w a.index.now)))
     (rw j.ensures at c.hand_made.ensures)

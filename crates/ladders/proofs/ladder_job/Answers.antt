@@ -21,5 +21,5 @@ overflow_add-poles c = omega (arith, small c.args.degree c.args.n c.requires.1 c
 pub overflow_add-deviations : goal.overflow_add-deviations
 overflow_add-deviations c = omega (arith, small c.args.degree c.args.n c.requires.1 c.requires.0)
 
-pub overflow_add-result : goal.overflow_add-result
-overflow_add-result c = omega (arith, small c.args.degree c.args.n c.requires.1 c.requires.0)
+pub overflow_add-fresh : goal.overflow_add-fresh
+overflow_add-fresh c = omega (arith, small c.args.degree c.args.n c.requires.1 c.requires.0)

@@ -1,5 +1,5 @@
--- What the call ensures, at the spacing that the bool says. Assumes nothing.
+-- What the call ensures, at the metric that the bool says. Assumes nothing.
 use Rattle.pieces.proofs.pieces_point_parameters.Goals as goal
 
 pub returns : goal.returns
-returns c = rw c.spacing.ensures at c.point_parameters.ensures
+returns c = rw c.metric.ensures at c.point_parameters.ensures

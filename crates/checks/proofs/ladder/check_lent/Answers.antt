@@ -7,4 +7,4 @@ pub returns-in-Stop : goal.returns-in-Stop
 returns-in-Stop c = next_stop _ _ _ (sym c.check_room.ensures ∙ c.in-Stop.is)
 
 pub returns-in-Pass : goal.returns-in-Pass
-returns-in-Pass c = c.check_coordinates.ensures ∙ next_pass _ _ (sym c.check_room.ensures ∙ c.in-Pass.is)
+returns-in-Pass c = c.check_given.ensures ∙ next_pass _ _ (sym c.check_room.ensures ∙ c.in-Pass.is)

@@ -22,7 +22,7 @@ pub returns-then-not-shared_parameters : goal.returns-then-not-shared_parameters
 returns-then-not-shared_parameters c =
     let a = c.args in
     let q = c.shared_parameters in
-    grid-refused a.shape _ ConfusedPoints (u-none a.call a.points.now a.shape a.spacing (found_none q.ensures (ap not c.if-not-shared_parameters.true))) _ _ _ _
+    grid-refused a.shape _ ConfusedPoints (u-none a.call a.points.now a.shape a.metric (found_none q.ensures (ap not c.if-not-shared_parameters.true))) _ _ _ _
 
 pub shared_parameters-requires-2 : goal.shared_parameters-requires-2
 shared_parameters-requires-2 c =
@@ -35,7 +35,7 @@ returns-then-not-shared_parameters-2 c =
     let a = c.args in
     let q = c.shared_parameters in
     let z = c.shared_parameters-2 in
-    grid-refused a.shape _ ConfusedPoints (v-none a.call a.points.now a.shape a.spacing _ (found_some q.ensures (ap not c.if-not-shared_parameters.false)) (found_none z.ensures (ap not c.if-not-shared_parameters-2.true))) _ _ _ _
+    grid-refused a.shape _ ConfusedPoints (v-none a.call a.points.now a.shape a.metric _ (found_some q.ensures (ap not c.if-not-shared_parameters.false)) (found_none z.ensures (ap not c.if-not-shared_parameters-2.true))) _ _ _ _
 
 pub fit_rows-requires : goal.fit_rows-requires
 fit_rows-requires c =
@@ -52,7 +52,7 @@ returns-in-Stop c =
     let a = c.args in
     let q = c.shared_parameters in
     let z = c.shared_parameters-2 in
-    grid-refused a.shape _ c.in-Stop.c (counts_stop a.call a.points.now a.shape a.spacing _ (found_some q.ensures (ap not c.if-not-shared_parameters.false)) _ (found_some z.ensures (ap not c.if-not-shared_parameters-2.false)) c.in-Stop.c (sym c.check_counts.ensures ∙ c.in-Stop.is)) _ _ _ _
+    grid-refused a.shape _ c.in-Stop.c (counts_stop a.call a.points.now a.shape a.metric _ (found_some q.ensures (ap not c.if-not-shared_parameters.false)) _ (found_some z.ensures (ap not c.if-not-shared_parameters-2.false)) c.in-Stop.c (sym c.check_counts.ensures ∙ c.in-Stop.is)) _ _ _ _
 
 pub shape_of-work-in-Pass : goal.shape_of-work-in-Pass
 shape_of-work-in-Pass c =
@@ -75,6 +75,6 @@ returns-in-Pass c =
     let q = c.shared_parameters in
     let z = c.shared_parameters-2 in
     grid-same a.shape _
-    (counts_pass a.call a.points.now a.shape a.spacing _ (found_some q.ensures (ap not c.if-not-shared_parameters.false)) _ (found_some z.ensures (ap not c.if-not-shared_parameters-2.false)) (splice a.shape.rows (length w) ys w)
+    (counts_pass a.call a.points.now a.shape a.metric _ (found_some q.ensures (ap not c.if-not-shared_parameters.false)) _ (found_some z.ensures (ap not c.if-not-shared_parameters-2.false)) (splice a.shape.rows (length w) ys w)
     (sym c.check_counts.ensures ∙ c.in-Pass.is) (u_there a.shape w ys long fits) (v_there a.shape w ys long fits))
     c.fit_rows.ensures

@@ -1,5 +1,5 @@
 -- The rows' fit stands in the work, and the columns are fitted over it. Assumes nothing.
-use mathlib.Core.Path.{ap}
+use mathlib.Core.Path.{refl, ap}
 use native.Mathlib.Omega.{arith}
 use Rattle.fitting.specs.declared.Job.{Job}
 use Rattle.grids.proofs.GridRunLaws.{grid-same, grid-refused, rows_fail, rows_stand}
@@ -14,29 +14,29 @@ rows_job-rows-requires c =
 pub overflow_add-saved : goal.overflow_add-saved
 overflow_add-saved c =
     let a = c.args in
-    let r = rows_ready a.call a.points.now a.work.now a.index.now a.shape c.requires in
+    let r = rows_ready a.factor a.call a.points.now a.work.now a.index.now a.shape c.requires in
     omega (arith, ap (λ (j : Job). j.fresh) c.rows_job-rows.ensures, r.1.room, c.well_formed)
 
 pub make_direction-requires : goal.make_direction-requires
 make_direction-requires c =
     let a = c.args in
-    rw (c.rows_job-rows.ensures, c.row_aim.ensures) (rows_ready a.call a.points.now a.work.now a.index.now a.shape c.requires)
+    rw (c.rows_job-rows.ensures, c.row_aim.ensures) (rows_ready a.factor a.call a.points.now a.work.now a.index.now a.shape c.requires)
 
 pub fit_columns-requires : goal.fit_columns-requires
 fit_columns-requires c =
     let a = c.args in
     let d = c.make_direction in
     let m = rw (c.rows_job-rows.ensures, c.row_aim.ensures) at d.ensures in
-    (passed_later a.call a.points.now a.work.now a.index.now a.shape c.requires d.new.work d.new.index m.kept.long m.firsts.long, c.rows_job-rows.ensures, m.standing c.in-Stands.x c.in-Stands.is)
+    rw c.rows_job-rows.ensures (passed_later a.factor a.call a.points.now a.work.now a.index.now a.shape c.requires d.new.work d.new.index m.kept.long m.firsts.long, refl, m.standing c.in-Stands.x c.in-Stands.is)
 
 pub returns-in-Fails : goal.returns-in-Fails
 returns-in-Fails c =
     let a = c.args in
     let m = rw (c.rows_job-rows.ensures, c.row_aim.ensures) at c.make_direction.ensures in
-    grid-refused a.shape _ c.in-Fails.c (rows_fail a.call a.shape a.points.now a.work.now a.index.now (params_fit a.call a.points.now a.work.now a.index.now a.shape c.requires) m c.in-Fails.c c.in-Fails.is) _ _ _ _
+    grid-refused a.shape _ c.in-Fails.c (rows_fail a.factor a.call a.shape a.points.now a.work.now a.index.now (params_fit a.factor a.call a.points.now a.work.now a.index.now a.shape c.requires) m c.in-Fails.c c.in-Fails.is) _ _ _ _
 
 pub returns-in-Stands : goal.returns-in-Stands
 returns-in-Stands c =
     let a = c.args in
     let m = rw (c.rows_job-rows.ensures, c.row_aim.ensures) at c.make_direction.ensures in
-    grid-same a.shape _ (rows_stand a.call a.shape a.points.now a.work.now a.index.now (params_fit a.call a.points.now a.work.now a.index.now a.shape c.requires) m c.in-Stands.x c.in-Stands.is) c.fit_columns.ensures
+    grid-same a.shape _ (rows_stand a.factor a.call a.shape a.points.now a.work.now a.index.now (params_fit a.factor a.call a.points.now a.work.now a.index.now a.shape c.requires) m c.in-Stands.x c.in-Stands.is) (rw c.rows_job-rows.ensures at c.fit_columns.ensures)

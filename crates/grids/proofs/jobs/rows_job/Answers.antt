@@ -44,7 +44,7 @@ overflow_add-deviations c =
     let h = c.args.shape in
     omega (arith, values-few h.cols h.v c.requires.1 c.requires.2, band-few h.v h.cols c.requires.2 c.requires.1, points-few h.rows h.cols c.requires.0 c.requires.1)
 
-pub overflow_add-result : goal.overflow_add-result
-overflow_add-result c =
+pub overflow_add-fresh : goal.overflow_add-fresh
+overflow_add-fresh c =
     let h = c.args.shape in
     omega (arith, values-few h.cols h.v c.requires.1 c.requires.2, band-few h.v h.cols c.requires.2 c.requires.1, points-few h.rows h.cols c.requires.0 c.requires.1)

@@ -1,5 +1,5 @@
--- The spacing by its number, and the call. Assumes nothing.
+-- The metric by its numbers, and the call. Assumes nothing.
 use Rattle.interface.proofs.grid_calls.nigorzai_approximate_grid.Goals as goal
 
 pub returns : goal.returns
-returns c = rw c.spacing_of.ensures at c.call_grid.ensures
+returns c = rw c.metric_of.ensures at c.call_grid.ensures

@@ -24,7 +24,7 @@ loop-k-preserved c =
     let l = c.loop-k in (
       omega arith,
       chorded-next _ _ l.k l.out l.length l.confused l.invariant.1 _
-          (chord_of a.points.now a.start a.stride a.n l.k _ c.loop-k-test.true c.chord_at-d.ensures),
+          (chord_of a.factor a.points.now a.start a.stride a.n l.k _ c.loop-k-test.true c.chord_at-d.ensures),
     )
 
 pub returns : goal.returns
@@ -34,4 +34,4 @@ returns c =
     let l = c.loop-k in
     let e : l.k ≡ a.n - 1 = omega arith in
     let s = rw e at l.invariant.1 in
-    (rw (s.chord_is, s.confused_is), chorded_all a.n _ a.out.now l.out (omega arith) s.out_is)
+    (rw (s.chord_is, s.confused_is), chorded_all a.factor a.n _ a.out.now l.out (omega arith) s.out_is)

@@ -6,7 +6,7 @@ use Rattle.knots.proofs.ParameterLaws.{Chorded}
 use Rattle.knots.proofs.parameters.line_chords.Given as goal
 
 abbrev pub invariant-loop-k : goal.invariant-loop-k
-invariant-loop-k l = (l.k ≤ l.n - 1) × Chorded (chords l.n (line_of l.points l.start l.stride)) l.initial.out l.k l.out l.length l.confused
+invariant-loop-k l = (l.k ≤ l.n - 1) × Chorded (chords l.factor l.n (line_of l.points l.start l.stride)) l.initial.out l.k l.out l.length l.confused
 
 abbrev pub decreases-loop-k : goal.decreases-loop-k
 decreases-loop-k l = l.n - l.k

@@ -6,4 +6,4 @@ use Rattle.knots.proofs.parameters.line_sums.Goals as goal
 pub returns : goal.returns
 returns c =
     let a = c.args in
-    line_summed a.spacing a.n _ a.out.now _ _ _ _ (omega arith) c.line_chords-line.ensures c.sum_steps-total.ensures
+    line_summed a.metric a.n _ a.out.now _ _ _ _ (omega arith) c.line_chords-line.ensures c.sum_steps-total.ensures

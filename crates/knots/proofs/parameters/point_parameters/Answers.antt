@@ -7,10 +7,10 @@ pub returns-then-line : goal.returns-then-line
 returns-then-line c =
     let a = c.args in
     let e = c.line_sums-line in
-    ladder-refused a.spacing a.n _ (omega arith) e.result a.out.now _ e.ensures.0 e.ensures.1 c.if-line.true
+    ladder-refused a.metric a.n _ (omega arith) e.result a.out.now _ e.ensures.0 e.ensures.1 c.if-line.true
 
 pub returns : goal.returns
 returns c =
     let a = c.args in
     let e = c.line_sums-line in
-    ladder-accepted a.spacing a.n _ (omega arith) e.result a.out.now _ e.ensures.0 e.ensures.1 c.if-line.false _ c.rescale.ensures
+    ladder-accepted a.metric a.n _ (omega arith) e.result a.out.now _ e.ensures.0 e.ensures.1 c.if-line.false _ c.rescale.ensures

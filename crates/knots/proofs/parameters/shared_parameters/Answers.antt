@@ -9,7 +9,7 @@ use Rattle.knots.proofs.parameters.shared_parameters.Goals as goal
 pub returns-then-used-eq0 : goal.returns-then-used-eq0
 returns-then-used-eq0 c =
     let e = c.add_lines-used in
-    shared-none c.args.spacing c.args.lines c.args.n _ (omega arith) e.result c.args.out.now _ e.ensures.1 c.if-used-eq0.true
+    shared-none c.args.metric c.args.lines c.args.n _ (omega arith) e.result c.args.out.now _ e.ensures.1 c.if-used-eq0.true
 
 pub int_to_float-used : goal.int_to_float-used
 int_to_float-used c = small_float _ (omega arith)
@@ -23,4 +23,4 @@ rises-requires c = omega (arith, length-take-le c.args.n c.rescale.new.out (omeg
 pub returns : goal.returns
 returns c =
     let e = c.add_lines-used in
-    shared-some c.args.spacing c.args.lines c.args.n _ (omega arith) e.result c.args.out.now _ e.ensures.1 (omega arith) c.if-used-eq0.false _ _ c.rescale.ensures c.rises.ensures
+    shared-some c.args.metric c.args.lines c.args.n _ (omega arith) e.result c.args.out.now _ e.ensures.1 (omega arith) c.if-used-eq0.false _ _ c.rescale.ensures c.rises.ensures

@@ -26,7 +26,7 @@ with_square-total-requires c = omega (arith, squares_listed c.loop-j.j _ c.loop-
 pub loop-j-preserved : goal.loop-j-preserved
 loop-j-preserved c =
     let a = c.args in
-    (omega arith, squares-next c.loop-j.j (one a.work.now a.index.now a.points.now a.v a.columns a.i a.curve) c.loop-j.total c.with_square-total.result c.squared_distance-s.result c.loop-j.invariant.1 (c.squared_distance-s.ensures ∙ rw (c.table_point-q.ensures, c.point_at.ensures)) c.with_square-total.ensures)
+    (omega arith, squares-next c.loop-j.j (one a.factor a.work.now a.index.now a.points.now a.v a.columns a.i a.curve) c.loop-j.total c.with_square-total.result c.squared_distance-s.result c.loop-j.invariant.1 (c.squared_distance-s.ensures ∙ rw (c.table_point-q.ensures, c.point_at.ensures)) c.with_square-total.ensures)
 
 pub returns : goal.returns
 returns c =

@@ -49,16 +49,16 @@ bounds-work-out c = omega (arith, c.requires, c.well_formed)
 pub with_all-total-requires : goal.with_all-total-requires
 with_all-total-requires c =
     let a = c.args in
-    omega (arith, rows_few (grid_square a.u a.v a.index.now a.points.now a.columns a.m a.poles a.curve a.out a.work.now) a.v.count c.loop-i.i c.loop-i.total c.loop-i.invariant.2.measures, squares_listed a.v.count _ c.curve_squares-row.result c.curve_squares-row.ensures, row_inside c.loop-i.i a.u.count a.v.count (omega arith), c.requires.given, c.well_formed)
+    omega (arith, rows_few (grid_square a.factor a.u a.v a.index.now a.points.now a.columns a.m a.poles a.curve a.out a.work.now) a.v.count c.loop-i.i c.loop-i.total c.loop-i.invariant.2.measures, squares_listed a.v.count _ c.curve_squares-row.result c.curve_squares-row.ensures, row_inside c.loop-i.i a.u.count a.v.count (omega arith), c.requires.given, c.well_formed)
 
 pub loop-i-preserved : goal.loop-i-preserved
 loop-i-preserved c =
     let a = c.args in
-    let g = grid-turn a.u a.v a.index.now a.points.now a.columns a.m a.poles a.curve a.out a.work.now c.loop-i.work c.curve_poles.new.work c.loop-i.total c.curve_squares-row.result c.with_all-total.result c.loop-i.i c.requires (omega arith) c.loop-i.invariant.2 c.curve_poles.ensures c.curve_squares-row.ensures c.with_all-total.ensures in
+    let g = grid-turn a.factor a.u a.v a.index.now a.points.now a.columns a.m a.poles a.curve a.out a.work.now c.loop-i.work c.curve_poles.new.work c.loop-i.total c.curve_squares-row.result c.with_all-total.result c.loop-i.i c.requires (omega arith) c.loop-i.invariant.2 c.curve_poles.ensures c.curve_squares-row.ensures c.with_all-total.ensures in
     (omega arith, g.kept.long, g)
 
 pub returns : goal.returns
 returns c =
     let a = c.args in
     let z : c.loop-i.i ≡ a.u.count = omega arith in
-    grid_done a.u a.v a.index.now a.points.now a.columns a.m a.poles a.curve a.out a.work.now c.loop-i.work c.loop-i.total c.rooted.result c.requires (rw z at c.loop-i.invariant.2) c.rooted.ensures
+    grid_done a.factor a.u a.v a.index.now a.points.now a.columns a.m a.poles a.curve a.out a.work.now c.loop-i.work c.loop-i.total c.rooted.result c.requires (rw z at c.loop-i.invariant.2) c.rooted.ensures

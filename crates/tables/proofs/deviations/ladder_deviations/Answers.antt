@@ -24,7 +24,7 @@ pub loop-k-init : goal.loop-k-init
 unfolding squares_measured list_of roots_of largest largest_from unreadable
 loop-k-init c =
     let a = c.args in
-    (omega arith, refl, sym (laid_none a.out (one a.work.now a.index.now a.points.now a.table a.m a.poles) a.work.now), refl)
+    (omega arith, refl, sym (laid_none a.out (one a.factor a.work.now a.index.now a.points.now a.table a.m a.poles) a.work.now), refl)
 
 pub table_point-q-requires : goal.table_point-q-requires
 table_point-q-requires c =
@@ -37,11 +37,11 @@ with_square-total-requires c = omega (arith, squares_listed c.loop-k.k _ c.loop-
 pub loop-k-preserved : goal.loop-k-preserved
 loop-k-preserved c =
     let a = c.args in
-    let D = one a.work.now a.index.now a.points.now a.table a.m a.poles in
+    let D = one a.factor a.work.now a.index.now a.points.now a.table a.m a.poles in
     let e : c.squared_distance-s.result ≡ D c.loop-k.k =
     c.squared_distance-s.ensures
     ∙ rw (c.table_point-q.ensures, c.point_at.ensures)
-    (ap (λ p. squared_distance p (point_at a.points.now c.loop-k.k))
+    (ap (λ p. squared_distance a.factor p (point_at a.points.now c.loop-k.k))
     (read_kept a.out (a.out + c.loop-k.k) a.work.now c.loop-k.work (rw c.loop-k.invariant.2 (kept-laid a.out c.loop-k.k D a.work.now (omega arith))) a.table a.index.now a.poles (a.poles + 3 * a.m) 0 c.loop-k.k (omega arith) (omega arith) (omega arith))) in
     let put = laid_next a.out c.loop-k.k D a.work.now c.loop-k.work c.squared_distance-s.result c.loop-k.invariant.2 e in
     (omega arith, ap length put ∙ length-laid a.out (c.loop-k.k + 1) D a.work.now, put, squares-next c.loop-k.k D c.loop-k.total c.with_square-total.result c.squared_distance-s.result c.loop-k.invariant.3 e c.with_square-total.ensures)
@@ -53,13 +53,13 @@ returns c =
     let z : c.loop-k.k ≡ n = omega arith in
     let t = table_in a.table a.work.now a.index.now in
     let ps = part a.poles (a.poles + 3 * a.m) a.work.now in
-    let S = one a.work.now a.index.now a.points.now a.table a.m a.poles in
+    let S = one a.factor a.work.now a.index.now a.points.now a.table a.m a.poles in
     let put : c.loop-k.work ≡ laid a.out n S a.work.now = c.loop-k.invariant.2 ∙ ap (λ (m : ℕ). laid a.out m S a.work.now) z in
     let total : c.loop-k.total ≡ squares_measured (list_of n S) = c.loop-k.invariant.3 ∙ ap (λ (m : ℕ). squares_measured (list_of m S)) z in
-    let found : roots_of (list_of n S) ≡ ladder_distances t ps a.points.now =
-    sym (ladder-rooted t ps a.points.now ∙ ap (λ (m : ℕ). roots_of (list_of m S)) (count_in a.table a.work.now a.index.now (omega arith))) in
+    let found : roots_of (list_of n S) ≡ ladder_distances a.factor t ps a.points.now =
+    sym (ladder-rooted a.factor t ps a.points.now ∙ ap (λ (m : ℕ). roots_of (list_of m S)) (count_in a.table a.work.now a.index.now (omega arith))) in
     record {
-      measures = rooted-measured (list_of n S) c.loop-k.total c.rooted.result (ladder-held t ps a.points.now n) total c.rooted.ensures ∙ ap measured found;
+      measures = rooted-measured (list_of n S) c.loop-k.total c.rooted.result (ladder-held a.factor t ps a.points.now n) total c.rooted.ensures ∙ ap measured found;
       deviations = ap (λ (w : List Float). roots_of (part a.out (a.out + n) w)) put ∙ ap roots_of (part-laid_region a.out n S a.work.now c.requires.0.room) ∙ found;
       kept = rw put (kept-laid a.out n S a.work.now c.requires.0.room);
     }

@@ -16,7 +16,7 @@ pub loop-i-init : goal.loop-i-init
 unfolding squares_measured joined roots_of largest largest_from unreadable
 loop-i-init c =
     let a = c.args in
-    (omega arith, refl, rows_start a.table a.index.now a.points.now a.rows a.m a.poles a.out a.work.now c.fill.new.out c.fill.ensures, refl)
+    (omega arith, refl, rows_start a.factor a.table a.index.now a.points.now a.rows a.m a.poles a.out a.work.now c.fill.new.out c.fill.ensures, refl)
 
 pub row_squares-row-requires : goal.row_squares-row-requires
 row_squares-row-requires c =
@@ -27,19 +27,19 @@ row_squares-row-requires c =
 pub with_all-total-requires : goal.with_all-total-requires
 with_all-total-requires c =
     let a = c.args in
-    omega (arith, rows_few (row_square a.table a.index.now a.points.now a.rows a.m a.poles a.out c.fill.new.out) a.table.count c.loop-i.i c.loop-i.total c.loop-i.invariant.3, squares_listed a.table.count _ c.row_squares-row.result c.row_squares-row.ensures.value, row_inside c.loop-i.i a.rows a.table.count (omega arith), c.requires, c.well_formed)
+    omega (arith, rows_few (row_square a.factor a.table a.index.now a.points.now a.rows a.m a.poles a.out c.fill.new.out) a.table.count c.loop-i.i c.loop-i.total c.loop-i.invariant.3, squares_listed a.table.count _ c.row_squares-row.result c.row_squares-row.ensures.value, row_inside c.loop-i.i a.rows a.table.count (omega arith), c.requires, c.well_formed)
 
 pub loop-i-preserved : goal.loop-i-preserved
 loop-i-preserved c =
     let a = c.args in
     let w = c.fill.new.out in
     let x = has-fit-kept a.table a.rows a.m a.poles a.out a.table.count a.work.now w a.index.now c.requires.0 (omega arith) in
-    let row = row-measured a.table a.index.now a.points.now a.rows a.m a.poles a.out w c.loop-i.work c.loop-i.i c.row_squares-row.result x c.loop-i.invariant.2 c.row_squares-row.ensures.value in
-    (omega arith, omega arith, rows-turn a.table a.index.now a.points.now a.rows a.m a.poles a.out w c.loop-i.work c.row_squares-row.new.work c.loop-i.i x c.loop-i.invariant.2 c.row_squares-row.ensures.work_after, rows-measured (row_square a.table a.index.now a.points.now a.rows a.m a.poles a.out w) a.table.count c.loop-i.i c.loop-i.total c.row_squares-row.result c.with_all-total.result c.loop-i.invariant.3 row c.with_all-total.ensures)
+    let row = row-measured a.factor a.table a.index.now a.points.now a.rows a.m a.poles a.out w c.loop-i.work c.loop-i.i c.row_squares-row.result x c.loop-i.invariant.2 c.row_squares-row.ensures.value in
+    (omega arith, omega arith, rows-turn a.factor a.table a.index.now a.points.now a.rows a.m a.poles a.out w c.loop-i.work c.row_squares-row.new.work c.loop-i.i x c.loop-i.invariant.2 c.row_squares-row.ensures.work_after, rows-measured (row_square a.factor a.table a.index.now a.points.now a.rows a.m a.poles a.out w) a.table.count c.loop-i.i c.loop-i.total c.row_squares-row.result c.with_all-total.result c.loop-i.invariant.3 row c.with_all-total.ensures)
 
 pub returns : goal.returns
 returns c =
     let a = c.args in
     let f = c.fill in
     let z : c.loop-i.i ≡ a.rows = omega arith in
-    rows_done a.table a.index.now a.points.now a.rows a.m a.poles a.out a.work.now f.new.out c.loop-i.work c.loop-i.total c.rooted.result c.requires.0 f.ensures (rw z at c.loop-i.invariant.2) (rw z at c.loop-i.invariant.3) c.rooted.ensures
+    rows_done a.factor a.table a.index.now a.points.now a.rows a.m a.poles a.out a.work.now f.new.out c.loop-i.work c.loop-i.total c.rooted.result c.requires.0 f.ensures (rw z at c.loop-i.invariant.2) (rw z at c.loop-i.invariant.3) c.rooted.ensures

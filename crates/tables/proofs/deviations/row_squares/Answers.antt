@@ -28,7 +28,7 @@ pub loop-j-init : goal.loop-j-init
 unfolding squares_measured list_of roots_of largest largest_from unreadable
 loop-j-init c =
     let a = c.args in
-    (omega arith, refl, sym (laid_none a.out (more a.work.now a.index.now a.points.now a.table a.rows a.m a.i a.poles a.out) a.work.now), refl)
+    (omega arith, refl, sym (laid_none a.out (more a.factor a.work.now a.index.now a.points.now a.table a.rows a.m a.i a.poles a.out) a.work.now), refl)
 
 pub table_point-q-requires : goal.table_point-q-requires
 table_point-q-requires c =
@@ -47,13 +47,13 @@ with_square-total-requires c = omega (arith, squares_listed c.loop-j.j _ c.loop-
 pub loop-j-preserved : goal.loop-j-preserved
 loop-j-preserved c =
     let a = c.args in
-    let D = one a.work.now a.index.now a.points.now a.table a.rows a.m a.i a.poles in
-    let G = more a.work.now a.index.now a.points.now a.table a.rows a.m a.i a.poles a.out in
+    let D = one a.factor a.work.now a.index.now a.points.now a.table a.rows a.m a.i a.poles in
+    let G = more a.factor a.work.now a.index.now a.points.now a.table a.rows a.m a.i a.poles a.out in
     let j = c.loop-j.j in
     let e : c.squared_distance-s.result ≡ D j =
     c.squared_distance-s.ensures
     ∙ rw (c.table_point-q.ensures, c.point_at.ensures)
-    (ap (λ p. squared_distance p (point_at a.points.now (a.i * a.table.count + j)))
+    (ap (λ p. squared_distance a.factor p (point_at a.points.now (a.i * a.table.count + j)))
     (read_kept a.out (a.out + j) a.work.now c.loop-j.work (rw c.loop-j.invariant.2 (kept-laid a.out j G a.work.now (omega arith))) a.table a.index.now a.poles (a.poles + 3 * (a.rows * a.m)) (a.i * a.m) j (omega arith) (omega arith) (omega arith))) in
     let old : at c.loop-j.work (a.out + j) ≡ at a.work.now (a.out + j) = ap (λ (w : List Float). at w (a.out + j)) c.loop-j.invariant.2 ∙ laid-above a.out j G a.work.now (a.out + j) nan (omega arith) in
     let put = laid_next a.out j G a.work.now c.loop-j.work c.max.result c.loop-j.invariant.2 (c.max.ensures ∙ rw (old, e)) in

@@ -11,11 +11,11 @@ pub returns-in-Stop : goal.returns-in-Stop
 unfolding grid_result_number
 returns-in-Stop c =
     let a = c.args in
-    let r = grid_checks_are a.points.now a.shape a.spacing no_grid _ c.check_grid.ensures in
-    c.number.ensures ∙ stopped-number a.call (grid_of a.points.now a.shape a.spacing) c.in-Stop.c (sym c.in-Stop.is ∙ r)
+    let r = grid_checks_are a.points.now a.shape a.metric no_grid _ c.check_grid.ensures in
+    c.number.ensures ∙ stopped-number a.call (grid_of a.points.now a.shape a.metric) c.in-Stop.c (sym c.in-Stop.is ∙ r)
 
 pub returns-in-Pass : goal.returns-in-Pass
 returns-in-Pass c =
     let a = c.args in
-    let r = grid_checks_are a.points.now a.shape a.spacing no_grid _ c.check_grid.ensures in
-    absurd (stops a.call (grid_of a.points.now a.shape a.spacing) (sym r ∙ c.in-Pass.is))
+    let r = grid_checks_are a.points.now a.shape a.metric no_grid _ c.check_grid.ensures in
+    absurd (stops a.call (grid_of a.points.now a.shape a.metric) (sym r ∙ c.in-Pass.is))

@@ -10,11 +10,11 @@ pub returns-in-Stop : goal.returns-in-Stop
 unfolding result_number
 returns-in-Stop c =
     let a = c.args in
-    let r = checks_are a.call a.points.now a.degree nothing _ _ c.check_ladder.ensures c.check_count-counts.ensures in
-    c.number.ensures ∙ stopped-number a.call a.points.now a.degree a.spacing c.in-Stop.c (sym c.in-Stop.is ∙ r)
+    let r = checks_are a.call a.points.now a.degree a.metric nothing _ _ c.check_ladder.ensures c.check_count-counts.ensures in
+    c.number.ensures ∙ stopped-number a.call a.points.now a.degree a.metric c.in-Stop.c (sym c.in-Stop.is ∙ r)
 
 pub returns-in-Pass : goal.returns-in-Pass
 returns-in-Pass c =
     let a = c.args in
-    let r = checks_are a.call a.points.now a.degree nothing _ _ c.check_ladder.ensures c.check_count-counts.ensures in
-    absurd (stops a.call a.points.now a.degree a.spacing (sym r ∙ c.in-Pass.is))
+    let r = checks_are a.call a.points.now a.degree a.metric nothing _ _ c.check_ladder.ensures c.check_count-counts.ensures in
+    absurd (stops a.call a.points.now a.degree a.metric (sym r ∙ c.in-Pass.is))
