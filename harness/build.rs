@@ -1,8 +1,26 @@
 //! Finds the published Rust (the folder GEOMCORE, with its src/), and writes the module declarations that compile it unchanged into this program.
 //! Of each fitting.rs a copy is made beside them whose text is the published one and, after it, the line that declares our module `pieces`:
 //! so the comparison reaches its private functions. Links the static libraries of this repository.
+//! With the feature `factor` the reference takes a lightness factor (document 02, request Five): of point.rs too a copy is compiled, in which one line of
+//! `Point3D::distance` is another.
 use std::path::{Path, PathBuf};
 use std::{env, fs};
+
+/// The published point.rs with the lightness factor in `Point3D::distance` alone.
+fn with_factor(text: &str) -> String {
+    let once = |text: &str, part: &str| {
+        assert!(text.matches(part).count() == 1, "point.rs has {part:?} not once");
+        text.find(part).unwrap()
+    };
+    let start = once(text, "    pub fn distance(self, other: Point3D) -> f64 {\n");
+    let end = start + text[start..].find("\n    }\n").expect("an end of distance");
+    let line = "        let dx = other.x - self.x;\n";
+    once(&text[start..end], line);
+    let distance = text[start..end].replace(line, "        let dx = (other.x - self.x) * crate::lightness::factor();\n");
+    let copy = [&text[..start], &distance, &text[end..]].concat();
+    assert!(text.lines().zip(copy.lines()).filter(|(a, b)| a != b).count() == 1, "more than one line of point.rs is another");
+    copy
+}
 
 fn main() {
     let here = PathBuf::from(env::var("CARGO_MANIFEST_DIR").unwrap());
@@ -21,8 +39,14 @@ fn main() {
     with_child("surfaces/fitting.rs", "src/grid_pieces.rs", "grid_fitting.rs");
 
     let at = |file: &str| format!("#[path = {:?}]\n", path(&source.join(file)));
+    let point = if env::var_os("CARGO_FEATURE_FACTOR").is_some() {
+        fs::write(out.join("point.rs"), with_factor(&fs::read_to_string(source.join("point.rs")).unwrap())).unwrap();
+        format!("#[path = {:?}]\n", path(&out.join("point.rs")))
+    } else {
+        at("point.rs")
+    };
     let text = [
-        at("point.rs") + "pub mod point;\n",
+        point + "pub mod point;\n",
         at("tolerance.rs") + "pub mod tolerance;\n",
         "pub mod curve_math {\n".into(),
         at("curve_math/bspline.rs") + "pub mod bspline;\n",

@@ -36,7 +36,8 @@
 #define NIGORZAI_CHORDAL 0
 #define NIGORZAI_CENTRIPETAL 1
 
-/* Every distance of a call takes a lightness factor: the difference of the first coordinates is multiplied by it before squaring. With 1 it is the plain distance. */
+/* The lightness factor of a fit, from 0.25 to 4: in every distance of the call the difference of the first coordinates is multiplied by it
+ * before it is squared, so below 1 lightness counts less. With 1 it is the plain distance. */
 #define NIGORZAI_PLAIN 1.0
 
 /* counts[NIGORZAI_MARK]: which step gave the knots and poles. */

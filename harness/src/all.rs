@@ -2,7 +2,7 @@
 //! its number, and after each chunk the counts are saved, so that a run that was stopped goes on after its last whole chunk.
 use crate::random::Random;
 use crate::tally::Tally;
-use crate::{grids, ladders, readings};
+use crate::{answers, grids, ladders, lightness, readings};
 use std::collections::BTreeMap;
 use std::path::{Path, PathBuf};
 use std::sync::atomic::{AtomicU64, Ordering};
@@ -50,7 +50,7 @@ struct State {
 /// A number that tells this program, with the library and the reference in it, from another.
 fn program() -> u64 {
     let bytes = std::fs::read(std::env::current_exe().expect("the program's path")).expect("the program's bytes");
-    bytes.iter().fold(0xcbf2_9ce4_8422_2325, |hash, &byte| (hash ^ byte as u64).wrapping_mul(0x100_0000_01b3))
+    answers::digest(answers::EMPTY, &bytes)
 }
 
 impl State {
@@ -144,7 +144,8 @@ fn taken(state: &mut State, receiver: Receiver<(u64, Chunk)>, count: u64, chunks
 pub fn compare(count: u64, seed: u64, threads: u64) -> u64 {
     let chunks = count.div_ceil(CHUNK);
     let folder = Path::new(concat!(env!("CARGO_MANIFEST_DIR"), "/../target"));
-    let mut state = State::found(folder.join(format!("beside-all-{seed}-{count}.state")));
+    let build = if lightness::TAKEN { "factor-" } else { "" };
+    let mut state = State::found(folder.join(format!("beside-all-{build}{seed}-{count}.state")));
     if state.chunks > 0 {
         eprintln!("{} of {chunks} chunks were done before: goes on after them", state.chunks);
     }

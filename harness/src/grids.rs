@@ -4,7 +4,8 @@ use crate::Point3D;
 use crate::curve_math::bspline::{KnotVector, distinct_knots};
 use crate::curves::fitting::pieces;
 use crate::guarded::Guarded;
-use crate::ladders::{MARKS, corner, degree, extra, fold, number, pole_count};
+use crate::ladders::{MARKS, corner, degree, extra, fold, number, pole_count, word};
+use crate::lightness;
 use crate::ours::{self, GridLent};
 use crate::points;
 use crate::random::{Random, all_same};
@@ -33,6 +34,7 @@ struct Call {
     chosen: Option<[usize; 2]>,
     tolerance: f64,
     spacing: usize,
+    factor: f64,
     extra: [i64; 11],
 }
 
@@ -66,10 +68,11 @@ impl Call {
 
     /// The call as a line.
     fn line(&self) -> String {
-        let Call { size: [rows, cols], degrees: [p, q], chosen, tolerance, spacing, extra, .. } = self;
-        let (name, length, bits) = (NAMES[self.entry()], self.places.len(), tolerance.to_bits());
-        let asked = chosen.map_or_else(|| format!("tolerance {tolerance:?} ({bits:016x})"), |[m, n]| format!("{m} x {n} poles"));
-        format!("{name} of {rows} x {cols}, {length} places, degrees {p} and {q}, {asked}, spacing {spacing}, lengths beyond the needed {extra:?}")
+        let Call { size: [rows, cols], degrees: [p, q], chosen, tolerance, spacing, factor, extra, .. } = self;
+        let (name, length, bits) = (NAMES[self.entry()], self.places.len(), [tolerance, factor].map(|x| x.to_bits()));
+        let asked = chosen.map_or_else(|| format!("tolerance {tolerance:?} ({:016x})", bits[0]), |[m, n]| format!("{m} x {n} poles"));
+        let given = format!("{name} of {rows} x {cols}, {length} places, degrees {p} and {q}, {asked}, spacing {spacing}");
+        format!("{given}, factor {factor:?} ({:016x}), lengths beyond the needed {extra:?}", bits[1])
     }
 
     /// Its places as words, a line a point.
@@ -155,6 +158,7 @@ struct Refusal {
 }
 
 const LENGTH: &str = "the length";
+const FACTOR: &str = "the factor";
 const COORDINATE: &str = "a coordinate";
 
 impl Refusal {
@@ -174,7 +178,7 @@ fn stop_if(cause: bool, number: u32, of: &'static str) -> Result<(), Refusal> {
     if cause { Err(Refusal { number, of }) } else { Ok(()) }
 }
 
-/// Document 01's checks up to 10 in their order for grids.
+/// Document 01's checks up to 10 in their order for grids, with document 02's 17 before 10.
 fn early(c: &Call) -> Result<(), Refusal> {
     for d in 0..2 {
         stop_if(c.size[d] > 64, 8, LINES[d])?;
@@ -190,7 +194,8 @@ fn early(c: &Call) -> Result<(), Refusal> {
     for slice in 0..11 {
         stop_if(lent[slice] < needed[slice], 9, SLICES[slice])?;
     }
-    stop_if(c.places.iter().any(|x| !x.is_finite() || x.abs() > 1_000_000.0), 10, COORDINATE)
+    stop_if(lightness::refused(c.factor), 17, FACTOR)?;
+    stop_if(points::too_far(&c.places), 10, COORDINATE)
 }
 
 /// Document 01's checks from 5 on, up to the steps.
@@ -235,15 +240,19 @@ fn within(c: &Call, fit: &Fit) -> bool {
     fit.sides.iter().zip(tolerances).all(|(side, tolerance)| side.mark > 2 || side.largest <= tolerance)
 }
 
-/// The reference's answer: document 01's checks and the steps, which must agree with the published call. That has no 8, 9, 10 and no length of its own.
+/// The reference's answer: document 01's checks, then the published call where distances have the call's factor. The Rust has the early refusals 1 and 2 too.
 fn answer(c: &Call) -> Answer {
-    let checked = early(c);
-    if let Err(refusal) = checked && ![1, 2].contains(&refusal.number) {
-        return Err(refusal);
-    }
+    let Err(refusal) = early(c) else { return lightness::with(c.factor, || unrefused(c)) };
+    let theirs = |number: u32| published(c, &c.lines()).err() == Some(number);
+    assert!(![1, 2].contains(&refusal.number) || theirs(refusal.number), "the checks differ from the Rust's");
+    Err(refusal)
+}
+
+/// That of a call that passes the checks up to 10: the further checks and the steps, which must agree with the published call.
+fn unrefused(c: &Call) -> Answer {
     let lines = c.lines();
     let theirs = published(c, &lines);
-    let answer = checked.and_then(|_| late(c, &lines)).and_then(|_| stepped(c, &lines));
+    let answer = late(c, &lines).and_then(|_| stepped(c, &lines));
     match (&answer, &theirs) {
         (Ok(fit), Ok(surface)) => assert!(agree(fit, surface) && within(c, fit), "the steps differ from the published call"),
         (Err(refusal), Err(number)) => assert!(refusal.number == *number, "the checks differ from the Rust's"),
@@ -265,7 +274,7 @@ fn difference(c: &Call, wanted: &Answer) -> Option<String> {
         v_flat: v_flat.slice(), v_knots: v_knots.slice(), v_mults: v_mults.slice(),
         work: work.slice(), index: index.slice(), largest: largest.slice(), counts: counts.slice(),
     };
-    let number = ours::grid(given.slice(), c.size, c.degrees, c.chosen, c.tolerance, c.spacing, &mut lent);
+    let number = ours::grid(given.slice(), c.size, c.degrees, c.chosen, c.tolerance, c.spacing, c.factor, &mut lent);
     let (right, cleared) = wanted.as_ref().err().map_or((0, true), |refusal| (refusal.number, refusal.cleared()));
     let none = Fit::default();
     let Fit { sides: [u, v], poles: poles_right } = wanted.as_ref().unwrap_or(&none);
@@ -316,9 +325,10 @@ fn fewer_lines(mut c: Call) -> Call {
     c
 }
 
-/// Smaller calls: slices as long as needed, a lower degree, a coordinate 0 throughout, rounder numbers.
+/// Smaller calls: slices as long as needed, the factor 1, a lower degree, a coordinate 0 throughout, rounder numbers.
 fn smaller(c: &Call) -> Vec<Call> {
     let mut calls = vec![Call { extra: [0; 11], ..c.clone() }, Call { spacing: c.spacing.min(1), ..c.clone() }, Call { spacing: 0, ..c.clone() }];
+    calls.push(Call { factor: 1.0, ..c.clone() });
     for d in 0..2 {
         let mut lower = c.clone();
         lower.degrees[d] = lower.degrees[d].saturating_sub(1);
@@ -330,14 +340,16 @@ fn smaller(c: &Call) -> Vec<Call> {
     }
     calls.extend(tally::rounder(&c.places).map(|places| Call { places, ..c.clone() }));
     calls.extend(tally::rounder(&[c.tolerance]).map(|tolerance| Call { tolerance: tolerance[0], ..c.clone() }));
+    calls.extend(tally::rounder(&[c.factor]).map(|factor| Call { factor: factor[0], ..c.clone() }));
+    calls.retain(|c| lightness::known(c.factor));
     calls
 }
 
 /// How much there is of a call: numbers beside the places, digits.
 fn weight(c: &Call) -> (u64, usize) {
     let beside = c.extra.iter().map(|e| e.unsigned_abs()).sum::<u64>().saturating_add(c.spacing as u64);
-    let beside = c.degrees.iter().fold(beside, |sum, &p| sum.saturating_add(p as u64));
-    (beside, tally::digits(&c.places) + tally::digits(&[c.tolerance]))
+    let beside = c.degrees.iter().fold(beside, |sum, &p| sum.saturating_add(p as u64)).saturating_add((c.factor != 1.0) as u64);
+    (beside, tally::digits(&c.places) + tally::digits(&[c.tolerance, c.factor]))
 }
 
 /// A call that differs, and with its points the smallest found that does.
@@ -477,10 +489,11 @@ fn damage(random: &mut Random, c: &mut Call) {
     }
 }
 
-/// Any call.
+/// Any call, at the factor that distances have.
 fn call(random: &mut Random) -> Call {
     let near_a_corner = random.one_in(5);
     let mut c = if near_a_corner { cornered(random) } else { usual(random) };
+    c.factor = lightness::factor();
     c.spacing = *random.of(&[0, 0, 0, 1, 1, 2, usize::MAX]);
     if !near_a_corner || random.one_in(3) {
         c.tolerance = tolerance(random, &c);
@@ -493,6 +506,15 @@ fn call(random: &mut Random) -> Call {
     }
     c.extra = extra(random, &c.needed());
     c
+}
+
+/// Any call, at any factor.
+fn any(random: &mut Random) -> Call {
+    let (factor, mut c) = lightness::drawn(random, call);
+    if lightness::refused(factor) {
+        lightness::beside(random, &mut c.places, &mut c.extra);
+    }
+    Call { factor, ..c }
 }
 
 /// Whether a column (d = 0) or a row (d = 1) is no longer than the bound, and so is skipped.
@@ -512,14 +534,15 @@ const SIZES: [&str; 2] = ["grid rows", "grid columns"];
 const DEGREES: [&str; 2] = ["degrees of grid fits along u", "degrees of grid fits along v"];
 const SHORT: &str = "grid calls with a slice too short";
 const SKIPPED: &str = "a line is skipped";
+const FACTORS: &str = "grid factors";
 
 /// What a report shows, none of it met.
 pub fn expected() -> Tally {
     let both = [(8, LINES), (2, DIRECTIONS), (1, LINES), (5, DIRECTIONS), (3, DIRECTIONS), (4, DIRECTIONS), (6, LINES)];
-    let refusals = both.iter().flat_map(|&(number, of)| of.map(|of| (number, of))).chain([(6, LENGTH), (10, COORDINATE)]).chain(SLICES.map(|of| (9, of)));
+    let refusals = both.iter().flat_map(|&(number, of)| of.map(|of| (number, of))).chain([(6, LENGTH), (17, FACTOR), (10, COORDINATE)]).chain(SLICES.map(|of| (9, of)));
     let pairs = (1..4).flat_map(|u| (1..4).map(move |v| (u, v))).chain([(4, 4)]);
     let tally = Tally::default().expect(CALLS, NAMES.into_iter().chain([SHORT])).expect(PAIRS, pairs.map(|(u, v)| pair(u, v)));
-    let mut tally = tally.expect(REFUSALS, refusals.map(|(number, of)| Refusal { number, of }.name()));
+    let mut tally = lightness::expected(tally, FACTORS).expect(REFUSALS, refusals.map(|(number, of)| Refusal { number, of }.name()));
     for d in 0..2 {
         let corners = RARE.iter().map(|(name, _)| *name).chain([SKIPPED]);
         tally = tally.expect(ALONG[d], &MARKS[1..]).expect(CORNERS[d], corners).expect(SIZES[d], 0..=66).expect(DEGREES[d], 1..=25);
@@ -534,6 +557,7 @@ fn pair(u: usize, v: usize) -> String {
 fn count(tally: &mut Tally, c: &Call, answer: &Answer) {
     tally.count(CALLS, NAMES[c.entry()], 1);
     tally.count(CALLS, SHORT, c.extra.iter().any(|&e| e < 0) as u64);
+    lightness::count(tally, FACTORS, c.factor, &c.places, answer.as_ref().err().map_or(0, |refusal| refusal.number));
     for d in 0..2 {
         tally.count(SIZES[d], &if c.size[d] <= 66 { c.size[d].to_string() } else { "over 66".into() }, 1);
     }
@@ -548,14 +572,44 @@ fn count_fit(tally: &mut Tally, c: &Call, fit: &Fit) {
     for (d, side) in fit.sides.iter().enumerate() {
         tally.count(ALONG[d], MARKS[side.mark], 1);
         tally.count(DEGREES[d], &side.degree.to_string(), 1);
-        tally.count(CORNERS[d], SKIPPED, skips(c, d) as u64);
+        tally.count(CORNERS[d], SKIPPED, lightness::with(c.factor, || skips(c, d)) as u64);
         RARE.iter().for_each(|(name, stands)| tally.count(CORNERS[d], name, stands(side) as u64));
     }
 }
 
+/// A call and its answer as words, with one word for every NaN.
+fn words(c: &Call, answer: &Answer) -> Vec<u64> {
+    let numbers = |list: &[f64]| list.iter().map(|&x| word(x)).collect::<Vec<u64>>();
+    let [m, n] = c.chosen.map_or([u64::MAX; 2], |counts| counts.map(|m| m as u64));
+    let mut words = [c.size, c.degrees].as_flattened().iter().map(|&n| n as u64).chain([m, n, word(c.tolerance), c.spacing as u64]).collect::<Vec<u64>>();
+    words.extend(numbers(&c.places));
+    match answer {
+        Err(refusal) => words.push(refusal.number as u64),
+        Ok(fit) => {
+            words.push(0);
+            for side in &fit.sides {
+                words.extend(side.counts().map(|n| n as u64));
+                words.push(word(side.largest));
+                words.extend([&side.flat, &side.knots].map(|list| numbers(list)).concat());
+                words.extend(side.mults.iter().map(|&m| m as u64));
+            }
+            words.extend(numbers(&fit.poles));
+        }
+    }
+    words
+}
+
+/// A call at the factor 1 and its answer as words, counted.
+pub fn answered(random: &mut Random, tally: &mut Tally) -> Vec<u64> {
+    let c = call(random);
+    let answer = answer(&c);
+    count(tally, &c, &answer);
+    words(&c, &answer)
+}
+
 /// Makes and counts a call; what differs from the Rust's, if anything does.
 pub fn one(random: &mut Random, tally: &mut Tally) -> Option<String> {
-    let c = call(random);
+    let c = any(random);
     let wanted = answer(&c);
     count(tally, &c, &wanted);
     difference(&c, &wanted).map(|what| told(&c, &what))
@@ -590,9 +644,9 @@ fn fits(answer: &Answer) -> bool {
     answer.is_ok()
 }
 
-/// A chordal call with tolerance 0 and slices as long as needed.
+/// A chordal call with tolerance 0, the factor 1 and slices as long as needed.
 fn plain(places: Vec<f64>, size: [usize; 2], degrees: [usize; 2], chosen: Option<[usize; 2]>) -> Call {
-    Call { places, size, degrees, chosen, tolerance: 0.0, spacing: 0, extra: [0; 11] }
+    Call { places, size, degrees, chosen, tolerance: 0.0, spacing: 0, factor: 1.0, extra: [0; 11] }
 }
 
 /// Points one apart.
@@ -673,6 +727,70 @@ fn stated_once() -> Vec<Trial> {
     trials
 }
 
+/// What document 02's request Five says of both calls, with either spacing.
+fn stated_factors(choose: bool, spacing: usize) -> Vec<Trial> {
+    let of = |factor: f64, size: [usize; 2], degrees: [usize; 2]| Call { spacing, factor, ..plain(even(size), size, degrees, choose.then_some(size)) };
+    let bad = |size: [usize; 2], degrees: [usize; 2]| of(f64::NAN, size, degrees);
+    let upright = |x: f64| Call { places: (0..12).flat_map(|k| [0.0, (k / 4 * (k / 4)) as f64, (k % 4) as f64]).collect(), ..of(x, [3, 4], [1, 2]) };
+    let short = |d: usize, factor: f64, x: f64| {
+        let mut points = [[0.0, 0.0, 0.0], [x, 0.0, 0.0], [0.0, 1.0, 0.0], [x, 1.0, 0.0]];
+        points[1..3].rotate_left(d);
+        Call { places: points.concat(), ..of(factor, [2, 2], [1, 1]) }
+    };
+    let mut trials: Vec<Trial> = lightness::OUTSIDE.iter().map(|&x| trial("no factor", of(x, [3, 4], [1, 2]), gives(17))).collect();
+    trials.extend(lightness::WITHIN.iter().map(|&x| trial("a factor, each first coordinate 0", upright(x), fits)));
+    trials.extend([
+        trial("factor NaN, 65 by 2", bad([65, 2], [1, 1]), gives(8)),
+        trial("factor NaN, degree 26", bad([27, 27], [1, 26]), gives(2)),
+        trial("factor NaN, 1 by 2", bad([1, 2], [1, 1]), gives(1)),
+        trial("factor NaN, 3 places for 3 by 4", Call { places: vec![0.0; 3], ..bad([3, 4], [1, 1]) }, gives(6)),
+        trial("factor NaN, coordinates too far", Call { places: vec![2e6; 36], ..bad([3, 4], [1, 1]) }, gives(17)),
+        trial("factor NaN, equal points", Call { places: vec![0.5; 36], ..bad([3, 4], [1, 1]) }, gives(17)),
+        trial("factor NaN, a degree too high", bad([3, 4], [3, 1]), gives(17)),
+    ]);
+    for d in 0..2 {
+        trials.extend([
+            trial("lines of length 4e-7, factor 0.25", short(d, 0.25, 4e-7), gives(5)),
+            trial("lines just longer than 4e-7, factor 0.25", short(d, 0.25, 4e-7f64.next_up()), fits),
+            trial("lines of length 2.5e-8, factor 4", short(d, 4.0, 2.5e-8), gives(5)),
+            trial("lines just longer than 2.5e-8, factor 4", short(d, 4.0, 2.5e-8f64.next_up()), fits),
+            trial("lines of length 4e-7, the factor after 0.25", short(d, 0.25f64.next_up(), 4e-7), fits),
+            trial("lines of length 2.5e-8, the factor before 4", short(d, 4.0f64.next_down(), 2.5e-8), gives(5)),
+        ]);
+    }
+    for slice in 0..11 {
+        let mut extra = [2; 11];
+        extra[slice] = -1;
+        trials.push(trial("factor NaN, a slice one short", Call { extra, ..bad([4, 5], [1, 1]) }, gives(9)));
+    }
+    trials
+}
+
+/// All that is said of single grids with other factors than 1, where this build has a reference.
+fn factor_trials() -> Vec<Trial> {
+    let both = [false, true].into_iter().flat_map(|choose| [0, 1].map(|spacing| (choose, spacing)));
+    let mut trials: Vec<Trial> = both.flat_map(|(choose, spacing)| stated_factors(choose, spacing)).collect();
+    trials.retain(|t| lightness::known(t.call.factor) || lightness::exact(&t.call.places, t.call.factor));
+    trials
+}
+
+/// The answer by the Rust at the factor 1, where the factor rounds no first coordinate: they are multiplied beforehand, and the poles' divided.
+fn multiplied(c: &Call) -> Answer {
+    let fit = answer(&Call { places: lightness::multiplied(&c.places, c.factor), factor: 1.0, ..c.clone() })?;
+    Ok(Fit { poles: lightness::multiplied(&fit.poles, 1.0 / c.factor), ..fit })
+}
+
+/// The reference's answer to a trial, by either way that there is, and by both where there are both.
+fn tried(c: &Call) -> Answer {
+    if !lightness::known(c.factor) {
+        return multiplied(c);
+    }
+    let answer = answer(c);
+    let alike = || words(c, &multiplied(c)) == words(c, &answer);
+    assert!(!lightness::exact(&c.places, c.factor) || alike(), "the distance's factor gives another answer than multiplied coordinates");
+    answer
+}
+
 /// All that is said of single grids.
 fn trials() -> Vec<Trial> {
     let mut trials = stated_once();
@@ -685,13 +803,14 @@ fn trials() -> Vec<Trial> {
 
 /// Grids of which something is said: each answer is the Rust's, and what is said of it holds.
 pub fn compare_stated() -> u64 {
-    let (trials, mut different) = (trials(), 0);
+    let (mut trials, mut different) = (trials(), 0);
+    trials.extend(factor_trials());
     for Trial { what, call, said } in &trials {
-        let wanted = answer(call);
+        let wanted = tried(call);
         let unlike = (!said(&wanted)).then(|| format!("the Rust's answer is {:?}", wanted.as_ref().err()));
         if let Some(text) = unlike.or_else(|| difference(call, &wanted)) {
             different += 1;
-            println!("different: {what}, {}: {text}", NAMES[call.entry()]);
+            println!("different: {what}, {}, factor {:?}: {text}", NAMES[call.entry()], call.factor);
         }
     }
     println!("{} grids to try: {different} different", trials.len());
@@ -731,7 +850,7 @@ impl Owned {
         let ([poles, u_flat, u_knots, v_flat, v_knots, work, largest], [u_mults, v_mults]) = (&mut self.doubles, &mut self.mults);
         let (index, counts) = (&mut self.index, &mut self.counts);
         let mut lent = GridLent { poles, u_flat, u_knots, u_mults, v_flat, v_knots, v_mults, work, index, largest, counts };
-        ours::grid(black_box(&c.places), c.size, c.degrees, c.chosen, c.tolerance, c.spacing, &mut lent)
+        ours::grid(black_box(&c.places), c.size, c.degrees, c.chosen, c.tolerance, c.spacing, c.factor, &mut lent)
     }
 }
 

@@ -5,6 +5,7 @@ use crate::curve_math::bspline::KnotVector;
 use crate::curves::fitting::pieces;
 use crate::curves::{BSplineConstructionError as Error, BSplineCurve3D};
 use crate::guarded::Guarded;
+use crate::lightness;
 use crate::ours::{self, APPROXIMATE, INTERPOLATE, Lent, SEARCH, WITHIN};
 use crate::points;
 use crate::random::{Random, all_same};
@@ -29,6 +30,7 @@ struct Call {
     count: usize,
     tolerance: f64,
     spacing: usize,
+    factor: f64,
     extra: [i64; 8],
 }
 
@@ -51,10 +53,10 @@ impl Call {
 
     /// The call as a line.
     fn line(&self) -> String {
-        let Call { entry, degree, count, tolerance, spacing, extra, .. } = self;
-        let (name, length, bits) = (NAMES[*entry], self.places.len(), tolerance.to_bits());
-        let given = format!("{name} of {length} places, degree {degree}, poles {count}, tolerance {tolerance:?} ({bits:016x}), spacing {spacing}");
-        format!("{given}, lengths beyond the needed {extra:?}")
+        let Call { entry, degree, count, tolerance, spacing, factor, extra, .. } = self;
+        let (name, length, bits) = (NAMES[*entry], self.places.len(), [tolerance, factor].map(|x| x.to_bits()));
+        let given = format!("{name} of {length} places, degree {degree}, poles {count}, tolerance {tolerance:?} ({:016x}), spacing {spacing}", bits[0]);
+        format!("{given}, factor {factor:?} ({:016x}), lengths beyond the needed {extra:?}", bits[1])
     }
 
     /// Its places as words, a line a point.
@@ -149,7 +151,7 @@ pub fn number(e: Error) -> u32 {
     }
 }
 
-/// Document 01's checks up to 10 in their order for ladders; 0 where none refuses.
+/// Document 01's checks up to 10 in their order for ladders, with document 02's 17 before 10; 0 where none refuses.
 fn refused(c: &Call) -> u32 {
     let (n, chosen) = (c.places.len() / 3, c.entry == APPROXIMATE);
     if c.places.len() % 3 != 0 {
@@ -173,7 +175,10 @@ fn refused(c: &Call) -> u32 {
     if c.lengths().iter().zip(c.needed()).any(|(&lent, needed)| lent < needed) {
         return 9;
     }
-    if c.places.iter().any(|x| !x.is_finite() || x.abs() > 1_000_000.0) {
+    if lightness::refused(c.factor) {
+        return 17;
+    }
+    if points::too_far(&c.places) {
         return 10;
     }
     0
@@ -214,17 +219,20 @@ pub fn fold(deviations: &[f64]) -> f64 {
     deviations.iter().fold(0.0f64, |a, &d| a.max(d))
 }
 
-/// The reference's answer: document 01's checks, then the published call, with mark and measures by its steps. The two must agree.
+/// The reference's answer: document 01's checks, then the published call where distances have the call's factor. The Rust has the refusals 1 to 4 too.
 fn answer(c: &Call) -> Answer {
-    let (refusal, points) = (refused(c), c.points());
-    if refusal > 4 {
-        return Err(refusal);
+    let refusal = refused(c);
+    if refusal == 0 {
+        return lightness::with(c.factor, || unrefused(c));
     }
+    assert!(refusal > 4 || published(c, &c.points()).err() == Some(refusal), "the checks differ from the Rust's");
+    Err(refusal)
+}
+
+/// That of a call that passes the checks up to 10: the published call, with mark and measures by its steps. The two must agree.
+fn unrefused(c: &Call) -> Answer {
+    let points = c.points();
     let theirs = published(c, &points);
-    if refusal > 0 {
-        assert!(theirs.err() == Some(refusal), "the checks differ from the Rust's");
-        return Err(refusal);
-    }
     let params = pieces::point_parameters(&points, c.spacing != 0).ok_or(5u32);
     let mut lone = false;
     let fit = params.and_then(|params| {
@@ -264,7 +272,7 @@ fn difference(c: &Call, wanted: &Answer) -> Option<String> {
         poles: poles.slice(), flat: flat.slice(), knots: knots.slice(), mults: mults.slice(),
         work: work.slice(), index: index.slice(), largest: largest.slice(), counts: counts.slice(),
     };
-    let number = ours::ladder(c.entry, given.slice(), c.degree, c.count, c.tolerance, c.spacing, &mut lent);
+    let number = ours::ladder(c.entry, given.slice(), c.degree, c.count, c.tolerance, c.spacing, c.factor, &mut lent);
     let (right, none) = (wanted.as_ref().err().copied().unwrap_or(0), Fit::default());
     let fit = wanted.as_ref().unwrap_or(&none);
     let cleared = [0, 5, 6].contains(&right);
@@ -302,11 +310,12 @@ fn halved(mut c: Call) -> Call {
     c
 }
 
-/// Smaller calls: slices as long as needed, what is not used left out, a point less, a lower degree, a coordinate 0 throughout, rounder numbers.
+/// Smaller calls: slices as long as needed, what is not used left out, the factor 1, a point less, a lower degree, a coordinate 0 throughout, rounder numbers.
 fn smaller(c: &Call) -> Vec<Call> {
     let (n, unused) = (c.places.len() / 3, (c.entry != APPROXIMATE, c.entry < WITHIN));
     let mut calls = vec![Call { extra: [0; 8], ..c.clone() }, Call { spacing: c.spacing.min(1), ..c.clone() }, Call { spacing: 0, ..c.clone() }];
     calls.push(Call { count: if unused.0 { 0 } else { c.count }, tolerance: if unused.1 { 0.0 } else { c.tolerance }, ..c.clone() });
+    calls.push(Call { factor: 1.0, ..c.clone() });
     calls.push(Call { degree: c.degree.saturating_sub(1), ..c.clone() });
     for (k, fewer) in (0..n).flat_map(|k| [(k, 0), (k, 1)]) {
         let places = [&c.places[..3 * k], &c.places[3 * k + 3..]].concat();
@@ -318,6 +327,8 @@ fn smaller(c: &Call) -> Vec<Call> {
     }
     calls.extend(tally::rounder(&c.places).map(|places| Call { places, ..c.clone() }));
     calls.extend(tally::rounder(&[c.tolerance]).map(|tolerance| Call { tolerance: tolerance[0], ..c.clone() }));
+    calls.extend(tally::rounder(&[c.factor]).map(|factor| Call { factor: factor[0], ..c.clone() }));
+    calls.retain(|c| lightness::known(c.factor));
     calls
 }
 
@@ -325,7 +336,8 @@ fn smaller(c: &Call) -> Vec<Call> {
 fn weight(c: &Call) -> (usize, u64, usize) {
     let beside = c.extra.iter().map(|e| e.unsigned_abs()).sum::<u64>().saturating_add(c.spacing as u64);
     let beside = beside.saturating_add(c.degree as u64).saturating_add(if c.entry == APPROXIMATE { 0 } else { c.count as u64 });
-    (c.places.len(), beside, tally::digits(&c.places) + tally::digits(&[c.tolerance]))
+    let beside = beside.saturating_add((c.factor != 1.0) as u64);
+    (c.places.len(), beside, tally::digits(&c.places) + tally::digits(&[c.tolerance, c.factor]))
 }
 
 /// A call that differs, and with its points the smallest found that does.
@@ -373,9 +385,11 @@ fn near(random: &mut Random, k: usize, by: usize) -> usize {
     if random.one_in(2) { k } else { random.from_to(k.saturating_sub(by), k + by) }
 }
 
-/// The points of a rare corner or of a neighbour of it, with its degree, pole count and tolerance.
+/// The points of a rare corner or of a neighbour of it, with its degree, pole count and tolerance. At another factor than 1 short steps along the first axis are
+/// divided by it.
 pub fn corner(random: &mut Random) -> (Vec<Point3D>, usize, usize, f64) {
-    let plane = |n: usize, y: &mut dyn FnMut(usize) -> f64| (0..n).map(|k| Point3D::new(k as f64, y(k), 0.0)).collect::<Vec<_>>();
+    let factor = lightness::factor();
+    let plane = |n: usize, y: &mut dyn FnMut(usize) -> f64| (0..n).map(|k| Point3D::new(k as f64 / factor, y(k), 0.0)).collect::<Vec<_>>();
     match random.below(10) {
         0 => {
             let (n, bump) = (near(random, 5, 2), random.from_to(0, 14));
@@ -390,8 +404,8 @@ pub fn corner(random: &mut Random) -> (Vec<Point3D>, usize, usize, f64) {
         2 => {
             let (n, gap) = (near(random, 3, 1), 1e-7 * (1.0 + 0.1 * near(random, 1, 1) as f64));
             let mut points = plane(n, &mut |_| 0.0);
-            points.iter_mut().skip(1).for_each(|q| q.x -= 1.0 - gap);
-            points.iter_mut().skip(2).for_each(|q| q.x -= gap);
+            points.iter_mut().skip(1).for_each(|q| q.x -= (1.0 - gap) / factor);
+            points.iter_mut().skip(2).for_each(|q| q.x -= gap / factor);
             (points, n - 1, n, 1e-8)
         }
         3 => (points::alternating(near(random, 1, 1), near(random, 3, 2).max(2), near(random, 1, 1)), near(random, 3, 2), near(random, 5, 1), 1.0),
@@ -401,7 +415,8 @@ pub fn corner(random: &mut Random) -> (Vec<Point3D>, usize, usize, f64) {
         7 | 8 => (points::alternating(near(random, 41, 5), near(random, 11, 3), near(random, 0, 2)), near(random, 2, 1).max(1), near(random, 40, 9), 1e5),
         _ if random.one_in(8) => {
             let size = *random.of(&[9e5, 9e5, 1e6, 8e5, 7.5e5]);
-            let within = (size * 1.7320508 * (0.95 + 0.01 * random.below(7) as f64)).round();
+            let across = 1.7320508 * ((factor * factor + 2.0) / 3.0).sqrt();
+            let within = (size * across * (0.95 + 0.01 * random.below(7) as f64)).round();
             (points::swinging(near(random, 254, 9), size, near(random, 4, 2)), near(random, 1, 1).max(1), near(random, 200, 50), within)
         }
         _ => (points::alternating(near(random, 70, 15), random.from_to(2, 14), near(random, 0, 2)), near(random, 1, 1).max(1), near(random, 60, 9), 1e5),
@@ -467,7 +482,7 @@ pub fn extra<const N: usize>(random: &mut Random, needed: &[usize; N]) -> [i64; 
     extra
 }
 
-/// Any call.
+/// Any call, at the factor that distances have.
 fn call(random: &mut Random) -> Call {
     let entry = random.from_to(0, 3);
     let spacing = *random.of(&[0, 0, 0, 1, 1, 2, usize::MAX]);
@@ -482,12 +497,29 @@ fn call(random: &mut Random) -> Call {
         (points, degree, pole_count(random, n, degree), None)
     };
     let tolerance = usual.unwrap_or_else(|| tolerance(random, &points, degree, spacing != 0));
-    let mut c = Call { entry, places: ours::places(&points), degree, count, tolerance, spacing, extra: [0; 8] };
+    let factor = lightness::factor();
+    let mut c = Call { entry, places: ours::places(&points), degree, count, tolerance, spacing, factor, extra: [0; 8] };
     if random.one_in(10) {
         (0..random.from_to(1, 3)).for_each(|_| damage(random, &mut c));
     }
     c.extra = extra(random, &c.needed());
     c
+}
+
+/// A call of which two points are about as far apart as the bound.
+fn close(random: &mut Random) -> Call {
+    let c = call(random);
+    let n = (c.places.len() / 3).clamp(2, 1024);
+    Call { places: ours::places(&points::close(random, n)), ..c }
+}
+
+/// Any call, at any factor.
+fn any(random: &mut Random) -> Call {
+    let (factor, mut c) = lightness::drawn(random, |random| if random.one_in(20) { close(random) } else { call(random) });
+    if lightness::refused(factor) {
+        lightness::beside(random, &mut c.places, &mut c.extra);
+    }
+    Call { factor, ..c }
 }
 
 /// The refusal's number, or 100 and the mark's.
@@ -505,13 +537,20 @@ const CORNERS: &str = "ladder corners";
 const POINTS: &str = "ladder points";
 const DEGREES: &str = "degrees of ladder fits";
 const SHORT: &str = "a slice too short";
+const FACTORS: &str = "ladder factors";
+
+/// Two neighbours whose distance is the bound of coincidence or a neighbour of it.
+const BOUNDS: [(&str, f64); 3] = [
+    ("a distance just below the bound", crate::tol::CONFUSION.next_down()), ("a distance at the bound", crate::tol::CONFUSION),
+    ("a distance just above the bound", crate::tol::CONFUSION.next_up()),
+];
 
 /// What a report shows, none of it met.
 pub fn expected() -> Tally {
-    let refusals = (1..=10).map(class_name).chain((101..105).map(class_name));
-    let corners = RARE.iter().map(|(name, _)| *name).chain([SHORT]);
+    let refusals = (1..=10).chain([17]).chain(101..105).map(class_name);
+    let corners = RARE.iter().map(|(name, _)| *name).chain(BOUNDS.map(|(name, _)| name)).chain([SHORT]);
     let tally = Tally::default().expect(CALLS, NAMES).expect(ANSWERS, refusals).expect(CORNERS, corners);
-    tally.expect(POINTS, 0..=1026).expect(DEGREES, 1..=25)
+    lightness::expected(tally, FACTORS).expect(POINTS, 0..=1026).expect(DEGREES, 1..=25)
 }
 
 fn count(tally: &mut Tally, c: &Call, answer: &Answer) {
@@ -520,14 +559,27 @@ fn count(tally: &mut Tally, c: &Call, answer: &Answer) {
     tally.count(ANSWERS, &class_name(class(answer)), 1);
     tally.count(POINTS, &n.to_string(), 1);
     tally.count(CORNERS, SHORT, c.extra.iter().any(|&e| e < 0) as u64);
+    lightness::count(tally, FACTORS, c.factor, &c.places, answer.as_ref().err().copied().unwrap_or(0));
+    if refused(c) == 0 {
+        let nearest = lightness::with(c.factor, || c.points().windows(2).map(|w| w[1].distance(w[0])).fold(f64::INFINITY, f64::min));
+        BOUNDS.iter().for_each(|(name, distance)| tally.count(CORNERS, name, (nearest == *distance) as u64));
+    }
     let Ok(fit) = answer else { return };
     tally.count(DEGREES, &c.degree.to_string(), 1);
     RARE.iter().for_each(|(name, stands)| tally.count(CORNERS, name, stands(fit, n) as u64));
 }
 
+/// A call at the factor 1 and its answer as words, counted.
+pub fn answered(random: &mut Random, tally: &mut Tally) -> Vec<u64> {
+    let c = call(random);
+    let answer = answer(&c);
+    count(tally, &c, &answer);
+    words(&c, &answer)
+}
+
 /// Makes and counts a call; what differs from the Rust's, if anything does.
 pub fn one(random: &mut Random, tally: &mut Tally) -> Option<String> {
-    let c = call(random);
+    let c = any(random);
     let wanted = answer(&c);
     count(tally, &c, &wanted);
     difference(&c, &wanted).map(|what| told(&c, &what))
@@ -558,10 +610,10 @@ fn fits(holds: impl Fn(&Fit) -> bool) -> impl Fn(&Answer) -> bool {
     move |answer| answer.as_ref().is_ok_and(&holds)
 }
 
-/// A chordal call with tolerance 0 and slices as long as needed; where a pole count is chosen it is as many as points.
+/// A chordal call with tolerance 0, the factor 1 and slices as long as needed; where a pole count is chosen it is as many as points.
 fn plain(entry: usize, places: Vec<f64>, degree: usize) -> Call {
     let count = if entry == APPROXIMATE { places.len() / 3 } else { 0 };
-    Call { entry, places, degree, count, tolerance: 0.0, spacing: 0, extra: [0; 8] }
+    Call { entry, places, degree, count, tolerance: 0.0, spacing: 0, factor: 1.0, extra: [0; 8] }
 }
 
 /// Places of points on the first axis.
@@ -627,6 +679,83 @@ fn stated(entry: usize, spacing: usize) -> Vec<Trial> {
     trials
 }
 
+/// What document 02's request Five says of one call and spacing.
+fn stated_factors(entry: usize, spacing: usize) -> Vec<Trial> {
+    let of = |factor: f64, places: Vec<f64>, degree: usize| Call { spacing, factor, ..plain(entry, places, degree) };
+    let bad = |places: Vec<f64>, degree: usize| of(f64::NAN, places, degree);
+    let upright: Vec<f64> = (0..7).flat_map(|k| [0.0, (k * k) as f64, (k % 3) as f64]).collect();
+    let apart = |factor: f64, x: f64| of(factor, on_axis(&[0.0, x]), 1);
+    let mut trials: Vec<Trial> = lightness::OUTSIDE.iter().map(|&x| trial("no factor", of(x, line(4), 2), gives(17))).collect();
+    trials.extend(lightness::WITHIN.iter().map(|&x| trial("a factor, each first coordinate 0", of(x, upright.clone(), 2), fits(|_| true))));
+    trials.extend([
+        trial("factor NaN, 7 places", bad(vec![1.0; 7], 1), gives(7)),
+        trial("factor NaN, 1,025 points", bad(line(1025), 3), gives(8)),
+        trial("factor NaN, one point", bad(line(1), 3), gives(1)),
+        trial("factor NaN, degree 26", bad(line(27), 26), gives(2)),
+        trial("factor NaN, a degree too high", bad(line(4), 4), gives(3)),
+        trial("factor NaN, a coordinate too far", bad(steps(&[0.0, 2e6, 0.0, 5.0]), 2), gives(17)),
+        trial("factor NaN, points confused", bad(vec![0.5; 12], 2), gives(17)),
+        trial("4e-7 apart, factor 0.25", apart(0.25, 4e-7), gives(5)),
+        trial("just above 4e-7 apart, factor 0.25", apart(0.25, 4e-7f64.next_up()), fits(|_| true)),
+        trial("2.5e-8 apart, factor 4", apart(4.0, 2.5e-8), gives(5)),
+        trial("just above 2.5e-8 apart, factor 4", apart(4.0, 2.5e-8f64.next_up()), fits(|_| true)),
+        trial("4e-7 apart, the factor after 0.25", apart(0.25f64.next_up(), 4e-7), fits(|_| true)),
+        trial("2.5e-8 apart, the factor before 4", apart(4.0f64.next_down(), 2.5e-8), gives(5)),
+        trial("1e-7 apart, the factor after 1", apart(1.0f64.next_up(), 1e-7), fits(|_| true)),
+    ]);
+    for slice in 0..8 {
+        let mut extra = [2; 8];
+        extra[slice] = -1;
+        trials.push(trial("factor NaN, a slice one short", Call { extra, ..bad(line(6), 3) }, gives(9)));
+    }
+    trials
+}
+
+/// What it says of one of the calls: 4 before 17 and 17 before 6; and knots of points that are 5, 5 and 10 apart with their factor.
+fn stated_factors_once() -> Vec<Trial> {
+    let bad = |c: Call| Call { factor: f64::NAN, ..c };
+    let many = Call { count: 5, ..plain(APPROXIMATE, line(4), 2) };
+    let none = plain(APPROXIMATE, on_axis(&[0.0, 1.1e-7, 1.0]), 2);
+    let path = |factor: f64, [x, y]: [f64; 2]| {
+        let places = [[0.0, 0.0, 0.0], [x, y, 0.0], [x, y, 5.0], [x, y + 10.0, 5.0]].concat();
+        Call { factor, ..plain(INTERPOLATE, places, 1) }
+    };
+    let quarter_and_half = || fits(|fit| fit.flat == [0.0, 0.0, 0.25, 0.5, 1.0, 1.0]);
+    vec![
+        trial("factor NaN, 4 points, 5 poles", bad(many), gives(4)),
+        trial("factor NaN, no poles by least squares", bad(none), gives(17)),
+        trial("steps of 12 and 4, factor 0.25", path(0.25, [12.0, 4.0]), quarter_and_half()),
+        trial("steps of 0.75 and 4, factor 4", path(4.0, [0.75, 4.0]), quarter_and_half()),
+    ]
+}
+
+/// All that is said of single ladders with other factors than 1, where this build has a reference.
+fn factor_trials() -> Vec<Trial> {
+    let mut trials = stated_factors_once();
+    for entry in 0..4 {
+        (0..2).for_each(|spacing| trials.extend(stated_factors(entry, spacing)));
+    }
+    trials.retain(|t| lightness::known(t.call.factor) || lightness::exact(&t.call.places, t.call.factor));
+    trials
+}
+
+/// The answer by the Rust at the factor 1, where the factor rounds no first coordinate: they are multiplied beforehand, and the poles' divided.
+fn multiplied(c: &Call) -> Answer {
+    let fit = answer(&Call { places: lightness::multiplied(&c.places, c.factor), factor: 1.0, ..c.clone() })?;
+    Ok(Fit { poles: lightness::multiplied(&fit.poles, 1.0 / c.factor), ..fit })
+}
+
+/// The reference's answer to a trial, by either way that there is, and by both where there are both.
+fn tried(c: &Call) -> Answer {
+    if !lightness::known(c.factor) {
+        return multiplied(c);
+    }
+    let answer = answer(c);
+    let alike = || words(c, &multiplied(c)) == words(c, &answer);
+    assert!(!lightness::exact(&c.places, c.factor) || alike(), "the distance's factor gives another answer than multiplied coordinates");
+    answer
+}
+
 /// Document 01's ladders to try that name their call.
 fn stated_once() -> Vec<Trial> {
     let two = |tolerance: f64, spacing: usize| Call { tolerance, spacing, ..plain(WITHIN, line(2), 1) };
@@ -680,15 +809,16 @@ fn trials() -> Vec<Trial> {
     trials
 }
 
-/// Document 01's ladders to try and the rare corners: each answer is the Rust's, and what is said of it holds.
+/// Document 01's ladders to try, the rare corners and document 02's factors: each answer is the Rust's, and what is said of it holds.
 pub fn compare_stated() -> u64 {
-    let (trials, mut different) = (trials(), 0);
+    let (mut trials, mut different) = (trials(), 0);
+    trials.extend(factor_trials());
     for Trial { what, call, said } in &trials {
-        let wanted = answer(call);
+        let wanted = tried(call);
         let unlike = (!said(&wanted)).then(|| format!("the Rust's answer is {}", class_name(class(&wanted))));
         if let Some(text) = unlike.or_else(|| difference(call, &wanted)) {
             different += 1;
-            println!("different: {what}, {}: {text}", NAMES[call.entry]);
+            println!("different: {what}, {}, factor {:?}: {text}", NAMES[call.entry], call.factor);
         }
     }
     println!("{} ladders to try: {different} different", trials.len());
@@ -696,7 +826,7 @@ pub fn compare_stated() -> u64 {
 }
 
 /// The bits, with one word for every NaN.
-fn word(x: f64) -> u64 {
+pub fn word(x: f64) -> u64 {
     if x.is_nan() { 0x7ff8_0000_0000_0000 } else { x.to_bits() }
 }
 
@@ -818,7 +948,7 @@ impl Owned {
     fn run(&mut self, c: &Call) -> u32 {
         let [poles, flat, knots, work, largest] = &mut self.doubles;
         let mut lent = Lent { poles, flat, knots, mults: &mut self.mults, work, index: &mut self.index, largest, counts: &mut self.counts };
-        ours::ladder(c.entry, black_box(&c.places), c.degree, c.count, c.tolerance, c.spacing, &mut lent)
+        ours::ladder(c.entry, black_box(&c.places), c.degree, c.count, c.tolerance, c.spacing, c.factor, &mut lent)
     }
 }
 

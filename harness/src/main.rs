@@ -1,4 +1,5 @@
 //! Runs beside the Rust: this repository's functions and geomcore's, on the same inputs, compared bit for bit. One NaN equals any other.
+//! Built with the feature `factor`, geomcore's distances take a lightness factor.
 #![allow(dead_code, unused_imports)]
 
 include!(concat!(env!("OUT_DIR"), "/reference.rs"));
@@ -15,12 +16,14 @@ pub use tolerance::Tolerance;
 pub use vector::{Vector2D, Vector3D};
 
 mod all;
+mod answers;
 mod bands;
 mod bench;
 mod grids;
 mod guarded;
 mod knots;
 mod ladders;
+mod lightness;
 mod nigorzai;
 mod ours;
 mod points;
@@ -46,6 +49,7 @@ fn main() {
         Some("all") => all::compare(number(1, 100_000), number(2, 1), number(3, 1)),
         Some("try") => ladders::compare_stated() + grids::compare_stated() + readings::compare_stated(),
         Some("wrapper") => ladders::wrapped::compare(2_000, 1) + grids::wrapped::compare(500, 1) + readings::compare_wrapped(5_000, 1),
+        Some("answers") => answers::tell(number(1, 100_000), number(2, 1)),
         Some("list") if words.len() == 2 => ladders::list(&words[1]),
         Some("stack") => {
             stack::bench();
@@ -54,8 +58,8 @@ fn main() {
         Some("bench") if bench::run(words.get(1).map(String::as_str)) => 0,
         _ => {
             eprintln!("beside roots COUNT SEED | readings COUNT SEED | knots COUNT SEED | bands COUNT SEED | tables COUNT SEED");
-            eprintln!("     | ladders COUNT SEED | grids COUNT SEED | card COUNT SEED | all COUNT SEED THREADS | try | wrapper | list FILE | stack");
-            eprintln!("     | bench [roots | readings | bands | tables | ladders | grids]");
+            eprintln!("     | ladders COUNT SEED | grids COUNT SEED | card COUNT SEED | all COUNT SEED THREADS | try | wrapper | answers COUNT SEED");
+            eprintln!("     | list FILE | stack | bench [roots | readings | bands | tables | ladders | grids]");
             std::process::exit(2)
         }
     };

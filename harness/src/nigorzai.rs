@@ -4,39 +4,42 @@
 //!
 //! `interpolate` and the like allocate what they need; the functions `lent_...` take slices of the caller's and allocate nothing. A refusal is its number in
 //! include/nigorzai.h.
+//!
+//! Each fit takes a lightness factor behind the spacing (document 02, request Five): in every distance of the call the first coordinates' difference is multiplied
+//! by it before it is squared. It is from 0.25 to 4, and 1.0 is the plain distance; NaN and numbers outside are refused with 17.
 #![allow(dead_code)]
 
 /// The functions as include/nigorzai.h has them.
 pub mod c {
     unsafe extern "C" {
         pub fn nigorzai_interpolate(
-            points: *const f64, points_len: usize, degree: usize, spacing: usize,
+            points: *const f64, points_len: usize, degree: usize, spacing: usize, factor: f64,
             poles: *mut f64, poles_len: usize, flat: *mut f64, flat_len: usize, knots: *mut f64, knots_len: usize, mults: *mut u32, mults_len: usize,
             work: *mut f64, work_len: usize, index: *mut usize, index_len: usize, largest: *mut f64, largest_len: usize, counts: *mut usize, counts_len: usize,
         ) -> u32;
         pub fn nigorzai_approximate(
-            points: *const f64, points_len: usize, degree: usize, count: usize, spacing: usize,
+            points: *const f64, points_len: usize, degree: usize, count: usize, spacing: usize, factor: f64,
             poles: *mut f64, poles_len: usize, flat: *mut f64, flat_len: usize, knots: *mut f64, knots_len: usize, mults: *mut u32, mults_len: usize,
             work: *mut f64, work_len: usize, index: *mut usize, index_len: usize, largest: *mut f64, largest_len: usize, counts: *mut usize, counts_len: usize,
         ) -> u32;
         pub fn nigorzai_approximate_within(
-            points: *const f64, points_len: usize, degree: usize, tolerance: f64, spacing: usize,
+            points: *const f64, points_len: usize, degree: usize, tolerance: f64, spacing: usize, factor: f64,
             poles: *mut f64, poles_len: usize, flat: *mut f64, flat_len: usize, knots: *mut f64, knots_len: usize, mults: *mut u32, mults_len: usize,
             work: *mut f64, work_len: usize, index: *mut usize, index_len: usize, largest: *mut f64, largest_len: usize, counts: *mut usize, counts_len: usize,
         ) -> u32;
         pub fn nigorzai_search_spread(
-            points: *const f64, points_len: usize, degree: usize, tolerance: f64, spacing: usize,
+            points: *const f64, points_len: usize, degree: usize, tolerance: f64, spacing: usize, factor: f64,
             poles: *mut f64, poles_len: usize, flat: *mut f64, flat_len: usize, knots: *mut f64, knots_len: usize, mults: *mut u32, mults_len: usize,
             work: *mut f64, work_len: usize, index: *mut usize, index_len: usize, largest: *mut f64, largest_len: usize, counts: *mut usize, counts_len: usize,
         ) -> u32;
         pub fn nigorzai_approximate_grid(
-            points: *const f64, points_len: usize, rows: usize, cols: usize, u_degree: usize, v_degree: usize, u_count: usize, v_count: usize, spacing: usize,
+            points: *const f64, points_len: usize, rows: usize, cols: usize, u_degree: usize, v_degree: usize, u_count: usize, v_count: usize, spacing: usize, factor: f64,
             poles: *mut f64, poles_len: usize, u_flat: *mut f64, u_flat_len: usize, u_knots: *mut f64, u_knots_len: usize, u_mults: *mut u32, u_mults_len: usize,
             v_flat: *mut f64, v_flat_len: usize, v_knots: *mut f64, v_knots_len: usize, v_mults: *mut u32, v_mults_len: usize,
             work: *mut f64, work_len: usize, index: *mut usize, index_len: usize, largest: *mut f64, largest_len: usize, counts: *mut usize, counts_len: usize,
         ) -> u32;
         pub fn nigorzai_approximate_grid_within(
-            points: *const f64, points_len: usize, rows: usize, cols: usize, u_degree: usize, v_degree: usize, tolerance: f64, spacing: usize,
+            points: *const f64, points_len: usize, rows: usize, cols: usize, u_degree: usize, v_degree: usize, tolerance: f64, spacing: usize, factor: f64,
             poles: *mut f64, poles_len: usize, u_flat: *mut f64, u_flat_len: usize, u_knots: *mut f64, u_knots_len: usize, u_mults: *mut u32, u_mults_len: usize,
             v_flat: *mut f64, v_flat_len: usize, v_knots: *mut f64, v_knots_len: usize, v_mults: *mut u32, v_mults_len: usize,
             work: *mut f64, work_len: usize, index: *mut usize, index_len: usize, largest: *mut f64, largest_len: usize, counts: *mut usize, counts_len: usize,
@@ -107,33 +110,37 @@ pub struct Surface {
 }
 
 /// The curve through the points.
-pub fn interpolate(points: &[[f64; 3]], degree: usize, spacing: Spacing) -> Result<Fit, u32> {
-    fit(points, degree, Asked::Through, spacing)
+pub fn interpolate(points: &[[f64; 3]], degree: usize, spacing: Spacing, factor: f64) -> Result<Fit, u32> {
+    fit(points, degree, Asked::Through, spacing, factor)
 }
 
 /// Least squares with so many poles.
-pub fn approximate(points: &[[f64; 3]], degree: usize, count: usize, spacing: Spacing) -> Result<Fit, u32> {
-    fit(points, degree, Asked::Poles(count), spacing)
+pub fn approximate(points: &[[f64; 3]], degree: usize, count: usize, spacing: Spacing, factor: f64) -> Result<Fit, u32> {
+    fit(points, degree, Asked::Poles(count), spacing, factor)
 }
 
 /// Within a tolerance: by refinement, else by the search on spread knots, else through the points.
-pub fn approximate_within(points: &[[f64; 3]], degree: usize, tolerance: f64, spacing: Spacing) -> Result<Fit, u32> {
-    fit(points, degree, Asked::Within(tolerance), spacing)
+pub fn approximate_within(points: &[[f64; 3]], degree: usize, tolerance: f64, spacing: Spacing, factor: f64) -> Result<Fit, u32> {
+    fit(points, degree, Asked::Within(tolerance), spacing, factor)
 }
 
 /// By the search on spread knots alone, else through the points.
-pub fn search_spread(points: &[[f64; 3]], degree: usize, tolerance: f64, spacing: Spacing) -> Result<Fit, u32> {
-    fit(points, degree, Asked::SpreadWithin(tolerance), spacing)
+pub fn search_spread(points: &[[f64; 3]], degree: usize, tolerance: f64, spacing: Spacing, factor: f64) -> Result<Fit, u32> {
+    fit(points, degree, Asked::SpreadWithin(tolerance), spacing, factor)
 }
 
 /// Least squares with so many poles along u and v. Sizes, degrees and counts are u's, then v's; the points are row after row.
-pub fn approximate_grid(points: &[[f64; 3]], size: [usize; 2], degrees: [usize; 2], counts: [usize; 2], spacing: Spacing) -> Result<Surface, u32> {
-    surface(points, size, degrees, GridAsked::Poles(counts), spacing)
+pub fn approximate_grid(
+    points: &[[f64; 3]], size: [usize; 2], degrees: [usize; 2], counts: [usize; 2], spacing: Spacing, factor: f64,
+) -> Result<Surface, u32> {
+    surface(points, size, degrees, GridAsked::Poles(counts), spacing, factor)
 }
 
 /// Within a tolerance.
-pub fn approximate_grid_within(points: &[[f64; 3]], size: [usize; 2], degrees: [usize; 2], tolerance: f64, spacing: Spacing) -> Result<Surface, u32> {
-    surface(points, size, degrees, GridAsked::Within(tolerance), spacing)
+pub fn approximate_grid_within(
+    points: &[[f64; 3]], size: [usize; 2], degrees: [usize; 2], tolerance: f64, spacing: Spacing, factor: f64,
+) -> Result<Surface, u32> {
+    surface(points, size, degrees, GridAsked::Within(tolerance), spacing, factor)
 }
 
 /// The point of a curve at a parameter.
@@ -171,7 +178,7 @@ impl Knots {
 /// More points and higher degrees than these are refused before a slice's length is looked at.
 const MOST: (usize, usize, usize) = (1025, 65, 26);
 
-fn fit(points: &[[f64; 3]], degree: usize, asked: Asked, spacing: Spacing) -> Result<Fit, u32> {
+fn fit(points: &[[f64; 3]], degree: usize, asked: Asked, spacing: Spacing, factor: f64) -> Result<Fit, u32> {
     let (n, p) = (points.len().min(MOST.0), degree.min(MOST.2));
     let (mut poles, mut along) = (vec![[0.0; 3]; n], Knots::new(n, p));
     let (mut work, mut index) = (vec![0.0; 4 * p * n + 16 * n + 64], vec![0; 4 * n]);
@@ -180,7 +187,7 @@ fn fit(points: &[[f64; 3]], degree: usize, asked: Asked, spacing: Spacing) -> Re
         poles: poles.as_flattened_mut(), flat: &mut along.flat, knots: &mut along.knots, mults: &mut along.mults,
         work: &mut work, index: &mut index, largest: &mut largest, counts: &mut counts,
     };
-    match lent_ladder(points.as_flattened(), degree, asked, spacing as usize, &mut lent) {
+    match lent_ladder(points.as_flattened(), degree, asked, spacing as usize, factor, &mut lent) {
         0 => {
             poles.truncate(counts[1]);
             Ok(Fit { along: along.taken(degree, &counts, largest[0]), poles })
@@ -189,7 +196,7 @@ fn fit(points: &[[f64; 3]], degree: usize, asked: Asked, spacing: Spacing) -> Re
     }
 }
 
-fn surface(points: &[[f64; 3]], size: [usize; 2], degrees: [usize; 2], asked: GridAsked, spacing: Spacing) -> Result<Surface, u32> {
+fn surface(points: &[[f64; 3]], size: [usize; 2], degrees: [usize; 2], asked: GridAsked, spacing: Spacing, factor: f64) -> Result<Surface, u32> {
     let ([r, c], [p, q]) = (size.map(|n| n.min(MOST.1)), degrees.map(|p| p.min(MOST.2)));
     let (mut poles, mut u, mut v) = (vec![[0.0; 3]; r * c], Knots::new(r, p), Knots::new(c, q));
     let most = r.max(c);
@@ -200,7 +207,7 @@ fn surface(points: &[[f64; 3]], size: [usize; 2], degrees: [usize; 2], asked: Gr
         v_flat: &mut v.flat, v_knots: &mut v.knots, v_mults: &mut v.mults,
         work: &mut work, index: &mut index, largest: &mut largest, counts: &mut counts,
     };
-    match lent_grid(points.as_flattened(), size, degrees, asked, spacing as usize, &mut lent) {
+    match lent_grid(points.as_flattened(), size, degrees, asked, spacing as usize, factor, &mut lent) {
         0 => {
             poles.truncate(counts[1] * counts[5]);
             Ok(Surface { u: u.taken(degrees[0], &counts[..4], largest[0]), v: v.taken(degrees[1], &counts[4..], largest[1]), poles })
@@ -238,7 +245,7 @@ pub struct Lent<'a> {
 }
 
 /// A ladder call: 0 for a fit, or the number of a refusal. Any spacing other than 0 is centripetal.
-pub fn lent_ladder(points: &[f64], degree: usize, asked: Asked, spacing: usize, lent: &mut Lent) -> u32 {
+pub fn lent_ladder(points: &[f64], degree: usize, asked: Asked, spacing: usize, factor: f64, lent: &mut Lent) -> u32 {
     macro_rules! call {
         ($f:ident, $($own:expr),*) => {
             unsafe {
@@ -251,10 +258,10 @@ pub fn lent_ladder(points: &[f64], degree: usize, asked: Asked, spacing: usize, 
         };
     }
     match asked {
-        Asked::Through => call!(nigorzai_interpolate, degree, spacing),
-        Asked::Poles(count) => call!(nigorzai_approximate, degree, count, spacing),
-        Asked::Within(tolerance) => call!(nigorzai_approximate_within, degree, tolerance, spacing),
-        Asked::SpreadWithin(tolerance) => call!(nigorzai_search_spread, degree, tolerance, spacing),
+        Asked::Through => call!(nigorzai_interpolate, degree, spacing, factor),
+        Asked::Poles(count) => call!(nigorzai_approximate, degree, count, spacing, factor),
+        Asked::Within(tolerance) => call!(nigorzai_approximate_within, degree, tolerance, spacing, factor),
+        Asked::SpreadWithin(tolerance) => call!(nigorzai_search_spread, degree, tolerance, spacing, factor),
     }
 }
 
@@ -274,12 +281,14 @@ pub struct GridLent<'a> {
 }
 
 /// A grid call: 0 for a fit, or the number of a refusal.
-pub fn lent_grid(points: &[f64], [rows, cols]: [usize; 2], [p, q]: [usize; 2], asked: GridAsked, spacing: usize, lent: &mut GridLent) -> u32 {
+pub fn lent_grid(
+    points: &[f64], [rows, cols]: [usize; 2], [p, q]: [usize; 2], asked: GridAsked, spacing: usize, factor: f64, lent: &mut GridLent,
+) -> u32 {
     macro_rules! call {
         ($f:ident, $($own:expr),*) => {
             unsafe {
                 c::$f(
-                    points.as_ptr(), points.len(), rows, cols, p, q, $($own),*, spacing, lent.poles.as_mut_ptr(), lent.poles.len(),
+                    points.as_ptr(), points.len(), rows, cols, p, q, $($own),*, spacing, factor, lent.poles.as_mut_ptr(), lent.poles.len(),
                     lent.u_flat.as_mut_ptr(), lent.u_flat.len(), lent.u_knots.as_mut_ptr(), lent.u_knots.len(), lent.u_mults.as_mut_ptr(), lent.u_mults.len(),
                     lent.v_flat.as_mut_ptr(), lent.v_flat.len(), lent.v_knots.as_mut_ptr(), lent.v_knots.len(), lent.v_mults.as_mut_ptr(), lent.v_mults.len(),
                     lent.work.as_mut_ptr(), lent.work.len(), lent.index.as_mut_ptr(), lent.index.len(),

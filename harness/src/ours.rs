@@ -325,19 +325,19 @@ pub const WITHIN: usize = 2;
 pub const SEARCH: usize = 3;
 
 /// One of the four ladder calls, of which `count` and `tolerance` are left out where it has none: 0 for a fit, or the number of a refusal.
-pub fn ladder(entry: usize, points: &[f64], degree: usize, count: usize, tolerance: f64, spacing: usize, lent: &mut Lent) -> u32 {
+pub fn ladder(entry: usize, points: &[f64], degree: usize, count: usize, tolerance: f64, spacing: usize, factor: f64, lent: &mut Lent) -> u32 {
     let asked = match entry {
         INTERPOLATE => Asked::Through,
         APPROXIMATE => Asked::Poles(count),
         WITHIN => Asked::Within(tolerance),
         _ => Asked::SpreadWithin(tolerance),
     };
-    lent_ladder(points, degree, asked, spacing, lent)
+    lent_ladder(points, degree, asked, spacing, factor, lent)
 }
 
 /// A grid call, with pole counts along u and v where they are chosen, else within the tolerance: 0 for a fit, or the number of a refusal.
 pub fn grid(
-    points: &[f64], size: [usize; 2], degrees: [usize; 2], chosen: Option<[usize; 2]>, tolerance: f64, spacing: usize, lent: &mut GridLent,
+    points: &[f64], size: [usize; 2], degrees: [usize; 2], chosen: Option<[usize; 2]>, tolerance: f64, spacing: usize, factor: f64, lent: &mut GridLent,
 ) -> u32 {
-    lent_grid(points, size, degrees, chosen.map_or(GridAsked::Within(tolerance), GridAsked::Poles), spacing, lent)
+    lent_grid(points, size, degrees, chosen.map_or(GridAsked::Within(tolerance), GridAsked::Poles), spacing, factor, lent)
 }

@@ -1,5 +1,7 @@
 //! Ladders and grids of every kind: smooth, noisy, with corners, with points that nearly coincide, with far jumps, with doubles at the edges of the range.
+//! Small gaps along the first axis are divided by the lightness factor, so that their distances are what they are at the factor 1.
 use crate::Point3D;
+use crate::lightness;
 use crate::random::Random;
 
 fn p(x: f64, y: f64, z: f64) -> Point3D {
@@ -9,8 +11,9 @@ fn p(x: f64, y: f64, z: f64) -> Point3D {
 /// `before` points alternating between two far corners, `close` points a little over the bound of coincidence apart, `after` more alternating.
 pub fn alternating(before: usize, close: usize, after: usize) -> Vec<Point3D> {
     let far = |k: usize| if k % 2 == 0 { p(-1e6, -1e6, -1e6) } else { p(1e6, 1e6, 1e6) };
+    let gap = 1.000001e-7 / lightness::factor();
     let mut points: Vec<Point3D> = (0..before).map(far).collect();
-    points.extend((1..=close).map(|k| p(k as f64 * 1.000001e-7, 0.0, 0.0)));
+    points.extend((1..=close).map(|k| p(k as f64 * gap, 0.0, 0.0)));
     points.extend((0..after).map(far));
     points
 }
@@ -55,9 +58,22 @@ pub fn ladder(random: &mut Random, n: usize) -> Vec<Point3D> {
     if random.one_in(12) {
         let k = random.from_to(1, n - 1);
         let near = points[k - 1];
-        points[k] = p(near.x + *random.of(&[0.0, 1e-7, 1.0000000000000002e-7, 9.999999999999999e-8, 5e-324, 1e-8]), near.y, near.z);
+        let gap = *random.of(&[0.0, 1e-7, 1.0000000000000002e-7, 9.999999999999999e-8, 5e-324, 1e-8]);
+        points[k] = p(near.x + gap / lightness::factor(), near.y, near.z);
     }
     points
+}
+
+/// n points one apart along the second axis, but for two neighbours: these are apart along the first alone, by about the bound of coincidence.
+pub fn close(random: &mut Random, n: usize) -> Vec<Point3D> {
+    let (at, bound) = (random.from_to(1, n - 1), 1e-7 / lightness::factor());
+    let gap = *random.of(&[bound, bound.next_up(), bound.next_up().next_up(), bound.next_down()]) * *random.of(&[1.0, -1.0]);
+    (0..n).map(|k| if k < at { p(0.0, k as f64, 0.0) } else { p(gap, k as f64 - 1.0, 0.0) }).collect()
+}
+
+/// Whether a coordinate is not finite or above 1,000,000 in size.
+pub fn too_far(places: &[f64]) -> bool {
+    places.iter().any(|x| !x.is_finite() || x.abs() > 1_000_000.0)
 }
 
 /// A coordinate that is no larger than 1,000,000 in size.
@@ -121,7 +137,7 @@ fn flat(random: &mut Random, rows: usize, cols: usize) -> Vec<Point3D> {
 fn short_rows(random: &mut Random, rows: usize, cols: usize) -> Vec<Point3D> {
     let mut points = Vec::with_capacity(rows * cols);
     for i in 0..rows {
-        let length = *random.of(&[1e-7, 1e-7, 1e-7f64.next_up(), 1e-7f64.next_down(), 0.0]);
+        let length = *random.of(&[1e-7, 1e-7, 1e-7f64.next_up(), 1e-7f64.next_down(), 0.0]) / lightness::factor();
         let last = if random.one_in(2) { 1 } else { cols - 1 };
         points.extend((0..cols).map(|j| p(length * j.min(last) as f64 / last as f64, i as f64, 0.0)));
     }

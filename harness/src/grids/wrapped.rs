@@ -7,8 +7,8 @@ fn wrapped(c: &Call) -> Result<nigorzai::Surface, u32> {
     let points: Vec<[f64; 3]> = c.places.chunks_exact(3).map(|q| [q[0], q[1], q[2]]).collect();
     let spacing = if c.centripetal() { Spacing::Centripetal } else { Spacing::Chordal };
     match c.chosen {
-        Some(counts) => nigorzai::approximate_grid(&points, c.size, c.degrees, counts, spacing),
-        None => nigorzai::approximate_grid_within(&points, c.size, c.degrees, c.tolerance, spacing),
+        Some(counts) => nigorzai::approximate_grid(&points, c.size, c.degrees, counts, spacing, c.factor),
+        None => nigorzai::approximate_grid_within(&points, c.size, c.degrees, c.tolerance, spacing, c.factor),
     }
 }
 
@@ -34,7 +34,7 @@ pub fn compare(count: u64, seed: u64) -> u64 {
     let heights: Vec<f64> = (0..30).flat_map(|k| [(k / 6) as f64, (k % 6) as f64, ((k * k) % 7) as f64]).collect();
     let small = [Some([3, 4]), None].map(|chosen| Call { tolerance: 0.5, ..plain(heights.clone(), [5, 6], [2, 2], chosen) });
     let (mut random, mut different, mut fits) = (Random::new(seed), 0, 0);
-    let others = (0..count).map(|_| Call { extra: [0; 11], ..call(&mut random) }).filter(|c| c.places.len() % 3 == 0);
+    let others = (0..count).map(|_| Call { extra: [0; 11], ..any(&mut random) }).filter(|c| c.places.len() % 3 == 0);
     for c in small.into_iter().chain(others) {
         fits += wrapped(&c).is_ok() as u64;
         if let Some(what) = unlike(&c) {

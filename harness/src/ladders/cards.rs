@@ -46,7 +46,7 @@ pub(super) fn parsed(text: &[u8]) -> Option<Call> {
             places.push(double(field)?);
         }
     }
-    Some(Call { entry, places, degree, count: 0, tolerance, spacing, extra: [0; 8] })
+    Some(Call { entry, places, degree, count: 0, tolerance, spacing, factor: 1.0, extra: [0; 8] })
 }
 
 /// The answer: the whole text is judged first, then the count, then the call.

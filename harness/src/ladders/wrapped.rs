@@ -8,10 +8,10 @@ fn wrapped(c: &Call) -> Result<nigorzai::Fit, u32> {
     let points: Vec<[f64; 3]> = c.places.chunks_exact(3).map(|q| [q[0], q[1], q[2]]).collect();
     let spacing = if c.spacing == 0 { Spacing::Chordal } else { Spacing::Centripetal };
     match c.entry {
-        INTERPOLATE => nigorzai::interpolate(&points, c.degree, spacing),
-        APPROXIMATE => nigorzai::approximate(&points, c.degree, c.count, spacing),
-        WITHIN => nigorzai::approximate_within(&points, c.degree, c.tolerance, spacing),
-        _ => nigorzai::search_spread(&points, c.degree, c.tolerance, spacing),
+        INTERPOLATE => nigorzai::interpolate(&points, c.degree, spacing, c.factor),
+        APPROXIMATE => nigorzai::approximate(&points, c.degree, c.count, spacing, c.factor),
+        WITHIN => nigorzai::approximate_within(&points, c.degree, c.tolerance, spacing, c.factor),
+        _ => nigorzai::search_spread(&points, c.degree, c.tolerance, spacing, c.factor),
     }
 }
 
@@ -65,7 +65,7 @@ fn compare_examples() -> u64 {
 pub fn compare(count: u64, seed: u64) -> u64 {
     let (mut different, mut random, mut fits) = (compare_examples(), Random::new(seed), 0);
     for _ in 0..count {
-        let mut c = Call { extra: [0; 8], ..call(&mut random) };
+        let mut c = Call { extra: [0; 8], ..any(&mut random) };
         c.places.truncate(c.places.len() / 3 * 3);
         fits += wrapped(&c).is_ok() as u64;
         if let Some(what) = unlike(&c) {
