@@ -1,4 +1,4 @@
-/* Curves from colour ladders and surfaces from colour grids, for C. Link target/staticlib/libinterface.a (`rt staticlib interface`) on x86-64.
+/* Curves from colour ladders and surfaces from colour grids, for C. Link target/staticlib/libinterface.a (`./library interface`) on x86-64.
  *
  * A slice is lent as a pointer and the number of its places. Points and poles have three places each (L*, a*, b*). No function
  * keeps a pointer, allocates, or writes outside the slices that it is lent. The slices of a call do not overlap; a pointer is
@@ -63,7 +63,7 @@
  *   flat     the flat knots, poles + degree + 1 of them
  *   knots    the distinct knots, counts[NIGORZAI_KNOTS] of them, and as many multiplicities in mults
  *   work     0 in every place, and index too: they are for the call's own use
- *   largest  the largest computed deviation of a point from the curve, NaN passed over
+ *   largest  the largest computed deviation of a point from the curve, by the distance with the factor, NaN passed over
  *   counts   the mark, the poles, the distinct knots, and how many deviations are unreadable (NaN)
  * Places beyond are as they were. After a refusal poles, flat, knots, mults, largest and counts are as they were; work and index
  * are as they were after 1 to 4, 7 to 10 and 17, and 0 in every place after 5 and 6.
@@ -103,7 +103,8 @@ uint32_t nigorzai_search_spread(const double *points, size_t points_length, size
  *   uflat, vflat   the flat knots along u and along v, poles + degree + 1 of each direction's
  *   uknots, vknots and umults, vmults   the distinct knots with their multiplicities
  *   work, index    0 in every place
- *   largest        the largest computed deviation: along u of a point from the surface, and then along v of a point from its row's curve
+ *   largest        the largest computed deviation, by the distance with the factor: along u of a point from the surface, and then along v of a
+ *                  point from its row's curve
  *   counts         u's mark, poles, distinct knots and unreadable deviations, and then v's
  * Places beyond are as they were. After a refusal all but work and index are as they were; work and index are as they were after 1, 2,
  * 8, 9, 10, 17 and 6 for the places, and 0 in every place after 3, 4, 5 and 6 for the poles.
