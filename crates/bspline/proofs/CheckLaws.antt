@@ -87,23 +87,32 @@ knots_pass n d knots mults e =
 pub flat-count : (n d : ℕ) (knots : List Float) (mults : List ℕ) → length knots ≡ length mults → Counted n d knots mults → length (flat_knots knots mults) ≡ n + d + 1
 flat-count n d knots mults pairs counted = length-flat knots mults pairs ∙ counted.whole
 
--- two of the facts that the last check gives
-readable : (n d : ℕ) (knots : List Float) (mults : List ℕ) (u : Float) → not_readable n d knots mults u ≡ false → (not_finite knots ≡ false) × (ltb n (d + 1) ≡ false)
+-- what the last check gives
+pub record Readable (n d : ℕ) (knots : List Float) (mults : List ℕ) (u : Float) : Type 0 where
+  pub counted : no_multiplicity mults ≡ false
+  pub finite : not_finite knots ≡ false
+  pub poles : ltb n (d + 1) ≡ false
+  pub range : le (last_parameter (flat_knots knots mults) d) (first_parameter (flat_knots knots mults) d) ≡ false
+  pub number : is_nan u ≡ false
+
+pub readable : (n d : ℕ) (knots : List Float) (mults : List ℕ) (u : Float) → not_readable n d knots mults u ≡ false → Readable n d knots mults u
 unfolding not_readable
 readable n d knots mults u e =
     let flat = flat_knots knots mults in
-    let more = le (last_parameter flat d) (first_parameter flat d) || is_nan u in
-    let first = or_false (no_multiplicity mults) (not_finite knots || (ltb n (d + 1) || more)) e in
-    let second = or_false (not_finite knots) (ltb n (d + 1) || more) first.1 in
-    (second.0, (or_false (ltb n (d + 1)) more second.1).0)
+    let empty = le (last_parameter flat d) (first_parameter flat d) in
+    let first = or_false (no_multiplicity mults) (not_finite knots || (ltb n (d + 1) || (empty || is_nan u))) e in
+    let second = or_false (not_finite knots) (ltb n (d + 1) || (empty || is_nan u)) first.1 in
+    let third = or_false (ltb n (d + 1)) (empty || is_nan u) second.1 in
+    let fourth = or_false empty (is_nan u) third.1 in
+    record { counted = first.0; finite = second.0; poles = third.0; range = fourth.0; number = fourth.1 }
 
 pub enough : (n d : ℕ) (knots : List Float) (mults : List ℕ) (u : Float) → not_readable n d knots mults u ≡ false → d + 1 ≤ n
-enough n d knots mults u e = ltb-false n (d + 1) (readable n d knots mults u e).1
+enough n d knots mults u e = ltb-false n (d + 1) (readable n d knots mults u e).poles
 
 pub never_falls : (n d : ℕ) (knots : List Float) (mults : List ℕ) (u : Float) → Counted n d knots mults → 1 ≤ length knots → not_readable n d knots mults u ≡ false → NeverFalls (flat_knots knots mults)
 unfolding not_finite not_increasing
 never_falls n d knots mults u counted h e =
-    let finite = (readable n d knots mults u e).0 in
+    let finite = (readable n d knots mults u e).finite in
     flat_never_falls knots mults
     (λ k l. finite_number (at knots k) (not-false _ (some_false (length knots) (λ j. not (is_finite (at knots j))) finite k l)))
     (λ k l. some_false (length knots - 1) (λ j. le (at knots (j + 1)) (at knots j)) counted.rising k (omega arith)) h

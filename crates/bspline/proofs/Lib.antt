@@ -3,4 +3,5 @@ pub mod SpanLaws
 pub mod Recurrence
 pub mod ReaderLaws
 pub mod CheckLaws
+pub mod HoldingLaws
 pub mod Examples

@@ -86,19 +86,42 @@ length-flat knots mults e =
     ap (λ (n : ℕ). length (joined n (run_of knots mults))) e
     ∙ omega (arith, runs-left knots mults (length mults) (omega arith), sum_end mults (length mults) (omega arith))
 
+-- ---- a list with a run of x after it, place by place
+
+module _ (l : List Float) (x : Float) (m : ℕ) where
+  run_long : length (l ++ replicate m x) ≡ length l + m
+  run_long = length-append l (replicate m x) ∙ ap (λ (n : ℕ). length l + n) (length-replicate m x)
+
+  run_front : (s : ℕ) → s < length l → at (l ++ replicate m x) s ≡ at l s
+  run_front s h = get_or-append l (replicate m x) nan s h
+
+  run_back : (s : ℕ) → length l ≤ s → s < length l + m → at (l ++ replicate m x) s ≡ x
+  run_back s h i =
+      let e : s ≡ length l + (s - length l) = omega arith in
+      ap (at (l ++ replicate m x)) e ∙ get_or-append-add l (replicate m x) (s - length l) nan ∙ get_or-replicate m (s - length l) x nan (omega arith)
+
+  -- what holds of each place of the list and of x holds of each place
+  run_each : (P : Float → Type 0) → ((s : ℕ) → s < length l → P (at l s)) → P x → (s : ℕ) → s < length l + m → P (at (l ++ replicate m x) s)
+  run_each P each here s h = ⊎_elim (λ i. rw (run_back s i h) here) (λ i. rw (run_front s i) (each s i)) (le-or-lt (length l) s)
+
+-- what holds of every knot holds of every flat knot
+pub each_knot : (knots : List Float) (mults : List ℕ) (P : Float → Type 0) → ((k : ℕ) → k < length knots → P (at knots k))
+    → (n : ℕ) → n ≤ length knots → (s : ℕ) → s < length (joined n (run_of knots mults)) → P (at (joined n (run_of knots mults)) s)
+unfolding joined
+each_knot knots mults P all zero h s l = absurd (not-suc-le-zero l)
+each_knot knots mults P all (suc n) h s l =
+    let long = run_long (joined n (run_of knots mults)) (at knots n) (multiplicity mults n) in
+    run_each (joined n (run_of knots mults)) (at knots n) (multiplicity mults n) P (each_knot knots mults P all n (omega arith)) (all n h) s (omega (arith, long, l))
+
 -- ---- flat knots of rising, finite knots never fall
 
 -- a list that never falls and stays at or below x, with a run of x after it
 run-rises : (l : List Float) (x : Float) (m : ℕ) → le x x ≡ true → NeverFalls l → ((s : ℕ) → s < length l → le (at l s) x ≡ true)
     → NeverFalls (l ++ replicate m x) × ((s : ℕ) → s < length (l ++ replicate m x) → le (at (l ++ replicate m x) s) x ≡ true)
 run-rises l x m self rises below =
-    let long : length (l ++ replicate m x) ≡ length l + m = length-append l (replicate m x) ∙ ap (λ (n : ℕ). length l + n) (length-replicate m x) in
-    let front : (s : ℕ) → s < length l → at (l ++ replicate m x) s ≡ at l s = λ s h. get_or-append l (replicate m x) nan s h in
-    let back : (s : ℕ) → length l ≤ s → s < length l + m → at (l ++ replicate m x) s ≡ x = λ s h i.
-    let e : s ≡ length l + (s - length l) = omega arith in
-    ap (at (l ++ replicate m x)) e ∙ get_or-append-add l (replicate m x) (s - length l) nan ∙ get_or-replicate m (s - length l) x nan (omega arith) in
-    let small : (s : ℕ) → s < length l + m → le (at (l ++ replicate m x) s) x ≡ true = λ s h. ⊎_elim (λ i. rw (back s i h) self) (λ i. rw (front s i) (below s i)) (le-or-lt (length l) s) in (
-      λ s h. ⊎_elim (λ i. rw (back (s + 1) i (omega arith)) (small s (omega arith))) (λ i. rw (front s (omega arith), front (s + 1) i) (rises s i)) (le-or-lt (length l) (s + 1)),
+    let long = run_long l x m in
+    let small : (s : ℕ) → s < length l + m → le (at (l ++ replicate m x) s) x ≡ true = run_each l x m (λ (y : Float). le y x ≡ true) below self in (
+      λ s h. ⊎_elim (λ i. rw (run_back l x m (s + 1) i (omega arith)) (small s (omega arith))) (λ i. rw (run_front l x m s (omega arith), run_front l x m (s + 1) i) (rises s i)) (le-or-lt (length l) (s + 1)),
       λ s h. small s (omega arith),
     )
 

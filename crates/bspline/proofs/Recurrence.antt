@@ -83,6 +83,10 @@ module _ (left right : ℕ → Float) where
       let two : d + 2 ≡ d + 1 + 1 = omega arith in
       ap (basis left right) (add-one d) ∙ ap (λ (m : ℕ). list_of m (row left right (at (basis left right d)) (d + 1))) two
 
+pub length-basis_at : (flat : List Float) (d i : ℕ) (u : Float) → length (basis_at flat d i u) ≡ d + 1
+unfolding basis_at
+length-basis_at flat d i u = length-basis (left_of flat i u) (right_of flat i u) d
+
 -- the functions of degree d + 1, worked out from distances and functions that agree with these
 next_row : (left left' right right' N : ℕ → Float) (d : ℕ) → ((k : ℕ) → 1 ≤ k → k ≤ d + 1 → left k ≡ left' k) → ((k : ℕ) → 1 ≤ k → k ≤ d + 1 → right k ≡ right' k)
     → ((k : ℕ) → k < d + 1 → N k ≡ at (basis left' right' d) k) → (i : ℕ) → i < d + 1 + 1 → row left right N (d + 1) i ≡ at (basis left' right' (d + 1)) i

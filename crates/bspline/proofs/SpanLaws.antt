@@ -49,6 +49,14 @@ pub span_before-next : (flat : List Float) (d : ℕ) (params : List Float) (k : 
 unfolding span_before
 span_before-next flat d params k = rw add-one
 
+-- the span at which the search stands has d knots on either side
+pub span_before-in : (flat : List Float) (d : ℕ) (params : List Float) (k : ℕ) → 2 * d + 2 ≤ length flat → (d ≤ span_before flat d params k) × (span_before flat d params k + d + 2 ≤ length flat)
+unfolding span_before
+span_before-in flat d params zero h = (omega arith, omega arith)
+span_before-in flat d params (suc k) h =
+    let b = span_before-in flat d params k h in
+    span_fits flat (at params k) d (span_before flat d params k) _ b.0 b.1 refl
+
 -- ---- the reader's search: the last span with a property
 
 module _ (p : ℕ → Bool) (lo : ℕ) where

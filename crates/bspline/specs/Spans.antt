@@ -56,3 +56,14 @@ span_of flat d u = last_with (λ s. begins flat u s && wide flat s) d (length fl
 -- no knot is below the one before it, nor a NaN beside it: what the reader's checks give
 abbrev pub NeverFalls : List Float → Type 0
 NeverFalls flat = (s : ℕ) → s + 1 < length flat → le (at flat s) (at flat (s + 1)) ≡ true
+
+-- the span that knot i opens holds u, its ends included
+pub record InSpan (flat : List Float) (i : ℕ) (u : Float) : Type 0 where
+  pub from : le (at flat i) u ≡ true
+  pub to : le u (at flat (i + 1)) ≡ true
+
+-- parameters that never fall, in the range of a curve of degree d
+pub record InRange (flat : List Float) (d : ℕ) (params : List Float) : Type 0 where
+  pub rise : NeverFalls params
+  pub from : (k : ℕ) → k < length params → le (first_parameter flat d) (at params k) ≡ true
+  pub to : (k : ℕ) → k < length params → le (at params k) (last_parameter flat d) ≡ true

@@ -1,5 +1,5 @@
 -- The table of basis values, filled by a loop that makes one row a turn. Assumes nothing.
-use Prim.Native.Nat.{ℕ, zero, suc, ◌+◌, ◌-◌, ◌*◌, ◌≤◌, ◌<◌}
+use Prim.Native.Nat.{ℕ, ◌+◌, ◌-◌, ◌*◌, ◌≤◌, ◌<◌}
 use native.Mathlib.Omega.{arith}
 use native.Mathlib.Nat.{zero-mul}
 use mathlib.Core.Path.{◌≡◌, refl, sym, ap, ◌∙◌, subst}
@@ -9,15 +9,15 @@ use lib.ListN.{length, set, take, drop, length-drop, take-append-drop}
 use lib.Seq.{take_at, drop_at, length-take-le}
 use Rattle.places.specs.Places.{list_of, joined, laid}
 use Rattle.places.specs.Regions.{part, splice}
-use Rattle.places.proofs.PlaceLaws.{laid-front, laid-part, laid-append, length-laid, length-list_of, list_of-at, list_of_all, length-joined, list_of-next, joined-next, length_filled, row_inside}
+use Rattle.places.proofs.PlaceLaws.{laid-front, laid-part, laid-append, length-laid, length-list_of, list_of-at, list_of-same, list_of_all, joined_at, length-joined, list_of-next, joined-next, length_filled, row_inside}
 use Rattle.places.proofs.RegionLaws.{length_part, length-splice, part-splice, get_d_part, part_same, get-same}
 use Rattle.geometry.specs.Doubles.{at}
 use Rattle.bspline.specs.Spans.{span_on, span_before, span_at}
 use Rattle.bspline.specs.Basis.{left_of, right_of, basis_at}
-use Rattle.bspline.proofs.SpanLaws.{span_fits, span_before-next}
-use Rattle.bspline.proofs.Recurrence.{length-basis, basis_agree}
+use Rattle.bspline.proofs.SpanLaws.{span_fits, span_before-next, span_before-in}
+use Rattle.bspline.proofs.Recurrence.{length-basis_at, basis_agree}
 use Rattle.tables.specs.declared.Table.{Table}
-use Rattle.tables.specs.BasisTable.{BasisTable, basis_table, first}
+use Rattle.tables.specs.BasisTable.{BasisTable, basis_table, first, value}
 use Rattle.tables.specs.Layout.{table_in, FillsTable, HasTable}
 
 abbrev pub first_at : List Float → ℕ → List Float → ℕ → ℕ
@@ -25,10 +25,6 @@ first_at flat d params k = span_at flat d params k - d
 
 abbrev pub row_at : List Float → ℕ → List Float → ℕ → List Float
 row_at flat d params k = basis_at flat d (span_at flat d params k) (at params k)
-
-pub length-row : (flat : List Float) (d i : ℕ) (u : Float) → length (basis_at flat d i u) ≡ d + 1
-unfolding basis_at
-length-row flat d i u = length-basis (left_of flat i u) (right_of flat i u) d
 
 -- the first k rows are made, and the search stands at `span`
 pub record TableTo (flat : List Float) (d : ℕ) (params : List Float) (firsts₀ firsts : List ℕ) (values₀ values : List Float) (span k : ℕ) : Type 0 where
@@ -64,7 +60,7 @@ table-next {flat} {d} {params} {firsts₀} {firsts} {values₀} {values} {span} 
   low = next.0;
   up = next.1;
   firsts-long = length_filled (k + 1) (list_of (k + 1) (first_at flat d params)) firsts₀ _ (omega arith) (length-list_of (k + 1) (first_at flat d params)) firsts_on;
-  values-long = length_filled ((k + 1) * (d + 1)) (joined (k + 1) (row_at flat d params)) values₀ _ (omega arith) (length-joined (k + 1) (d + 1) (row_at flat d params) (λ i h. length-row flat d _ _)) values_on;
+  values-long = length_filled ((k + 1) * (d + 1)) (joined (k + 1) (row_at flat d params)) values₀ _ (omega arith) (length-joined (k + 1) (d + 1) (row_at flat d params) (λ i h. length-basis_at flat d _ _)) values_on;
   firsts_to = firsts_on;
   values_to = values_on;
 }
@@ -82,7 +78,7 @@ table-next {flat} {d} {params} {firsts₀} {firsts} {values₀} {values} {span} 
     put_on = put ∙ ap (λ (m : ℕ). basis_at flat d m (at params k) ++ drop (d + 1) (part (k * (d + 1)) (k * (d + 1) + (d + 1)) values)) on
 
     values_on : splice (k * (d + 1)) (k * (d + 1) + (d + 1)) ys values ≡ joined (k + 1) (row_at flat d params) ++ drop ((k + 1) * (d + 1)) values₀
-    values_on = joined-next k (d + 1) (row_at flat d params) values₀ values ys (λ i h. length-row flat d _ _) in-values p.values-long p.values_to put_on
+    values_on = joined-next k (d + 1) (row_at flat d params) values₀ values ys (λ i h. length-basis_at flat d _ _) in-values p.values-long p.values_to put_on
 
 -- ---- the same in one buffer: knots and parameters stand before place `values`, and stay
 
@@ -140,7 +136,7 @@ work-next {from} {end} {d} {params} {count} {values} {w₀} {work} {ix₀} {ix} 
     let ys : List Float = laid 0 (d + 1) (at row) region in
     let width : length region ≡ k * (d + 1) + (d + 1) - k * (d + 1) = length_part (k * (d + 1)) (k * (d + 1) + (d + 1)) v in-v in
     let ys-is : ys ≡ row ++ drop (d + 1) region =
-    laid-front (d + 1) (at row) region (omega arith) ∙ ap (λ (l : List Float). l ++ drop (d + 1) region) (list_of_all (d + 1) row nan (length-row flat d s (at ps k))) in
+    laid-front (d + 1) (at row) region (omega arith) ∙ ap (λ (l : List Float). l ++ drop (d + 1) region) (list_of_all (d + 1) row nan (length-basis_at flat d s (at ps k))) in
     let same : splice (k * (d + 1)) (k * (d + 1) + (d + 1)) ys v ≡ drop values work' =
     laid-part (k * (d + 1)) (k * (d + 1) + (d + 1) - k * (d + 1)) (d + 1) (at row) v (omega arith) (omega arith)
     ∙ sym (ap (drop values) split ∙ drop_at (take values work) (laid (k * (d + 1)) (d + 1) (at row) v) values n) in
@@ -185,19 +181,19 @@ work-fits {from} {end} {d} {params} {count} {values} {w₀} {work} {ix₀} {ix} 
     let n = length_part from end work (omega (arith, p.long)) in
     (fits.0, omega (arith, fits.1, n))
 
--- the span at which the search stands has d knots on either side
-pub span-before_in : (flat : List Float) (d : ℕ) (params : List Float) (k : ℕ) → 2 * d + 2 ≤ length flat → (d ≤ span_before flat d params k) × (span_before flat d params k + d + 2 ≤ length flat)
-unfolding span_before
-span-before_in flat d params zero h = (omega arith, omega arith)
-span-before_in flat d params (suc k) h =
-    let b = span-before_in flat d params k h in
-    span_fits flat (at params k) d (span_before flat d params k) _ b.0 b.1 refl
+-- a row's values are the basis functions on the span that its search finds
+pub row_values : (flat : List Float) (d : ℕ) (params : List Float) (k : ℕ) → k < length params → list_of (d + 1) (value (basis_table flat d params) k) ≡ row_at flat d params k
+unfolding basis_table
+row_values flat d params k h =
+    let row : ℕ → List Float = row_at flat d params in
+    let long : (j : ℕ) → length (row j) ≡ d + 1 = λ j. length-basis_at flat d (span_at flat d params j) (at params j) in
+    list_of-same (d + 1) _ (at (row k)) (λ a l. joined_at (length params) (d + 1) row nan (λ j _. long j) k a h l) ∙ list_of_all (d + 1) (row k) nan (long k)
 
 -- each row's poles are among those that the flat knots have
 pub table-poles : (flat : List Float) (d : ℕ) (params : List Float) (k : ℕ) → 2 * d + 2 ≤ length flat → k < length params → first (basis_table flat d params) k + d < length flat - d - 1
 unfolding basis_table
 table-poles flat d params k h l =
-    let b = span-before_in flat d params (k + 1) h in
+    let b = span_before-in flat d params (k + 1) h in
     omega (arith, list_of-at (length params) (first_at flat d params) k 0 l)
 
 -- ---- what callers cite
@@ -215,7 +211,7 @@ module _ (t : Table) (flat end params : ℕ) (w₀ w : List Float) (ix₀ ix : L
 
   pub length-values : length made.values ≡ t.count * (t.degree + 1)
   unfolding basis_table
-  length-values = length-joined _ (t.degree + 1) _ (λ k h. length-row (part flat end w₀) t.degree _ _) ∙ ap (λ (n : ℕ). n * (t.degree + 1)) parameters
+  length-values = length-joined _ (t.degree + 1) _ (λ k h. length-basis_at (part flat end w₀) t.degree _ _) ∙ ap (λ (n : ℕ). n * (t.degree + 1)) parameters
 
   -- the table that stands where it was filled
   pub table_filled : ix ≡ splice t.firsts (t.firsts + t.count) made.firsts ix₀ → w ≡ splice t.values (t.values + t.count * (t.degree + 1)) made.values w₀ → table_in t w ix ≡ made
