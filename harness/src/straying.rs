@@ -57,7 +57,7 @@ struct Place {
     u: f64,
 }
 
-/// The basis values at a place, of the poles from `first` on, by the Rust and as our reader weights the poles.
+/// The basis values at a place, by the Rust and as our reader weights the poles.
 struct Row {
     theirs: Vec<f64>,
     ours: Vec<f64>,
@@ -167,12 +167,16 @@ fn beside(random: &mut Random, place: &Place) -> Place {
     other
 }
 
-/// What is wrong with a row, if anything is.
-fn wrong(row: &Row, above: f64) -> Option<&'static str> {
-    let differs = row.ours.iter().zip(&row.theirs).any(|(a, b)| a != b);
-    let negative = row.theirs.iter().any(|&v| !(v >= 0.0 && v.is_finite()));
-    let checks = [(differs, "a value is not the Rust's"), (negative, "a value is negative, infinite or NaN"), (above.abs() > BOUND, "further than 2^-40 from 1")];
-    checks.into_iter().find(|(fails, _)| *fails).map(|(_, what)| what)
+/// How far a row's sum lies above 1, or what is wrong with it.
+fn judged(row: &Row) -> Result<f64, &'static str> {
+    if row.theirs.iter().any(|&v| !(v >= 0.0 && v.is_finite())) {
+        return Err("a value is negative, infinite or NaN");
+    }
+    if row.ours.iter().zip(&row.theirs).any(|(a, b)| a != b) {
+        return Err("a value is not the Rust's");
+    }
+    let above = above_one(&row.ours);
+    if above.abs() > BOUND { Err("further than 2^-40 from 1") } else { Ok(above) }
 }
 
 /// The sums that crates/unity computes of its definitions, in units of 2^-111: of degree 2 at 0.5, 0.2 and 0.3, and of degree 25 at 0.2.
@@ -184,6 +188,15 @@ fn stated() -> u64 {
         above_one(&place.row().unwrap().ours) != wanted * unit
     });
     unlike.inspect(|(degree, u, _)| println!("different: the sum of degree {degree} at {u}")).count() as u64
+}
+
+/// By degree how many rows there were and how far the farthest lies from 1; and the farthest of all.
+fn report(farthest: &[Option<(f64, Place)>], rows: &[u64]) {
+    let met = farthest.iter().flatten().map(|(far, place)| format!("{} {} 2^{:.2}", place.degree, rows[place.degree], far.abs().log2()));
+    println!("by degree the rows and the farthest: {}", met.collect::<Vec<_>>().join("; "));
+    if let Some((far, place)) = farthest.iter().flatten().max_by(|a, b| a.0.abs().total_cmp(&b.0.abs())) {
+        println!("the farthest of all: {far:e} from 1, {place:?}");
+    }
 }
 
 /// So many rows; of every two the second lies beside the farthest of its degree so far.
@@ -202,11 +215,13 @@ pub fn compare(count: u64, seed: u64) -> u64 {
             _ => any_place(&mut random),
         };
         let Some(row) = place.row() else { continue };
-        let above = above_one(&row.ours);
-        if let Some(what) = wrong(&row, above) {
-            println!("different: {what}: {place:?}");
-            return 1;
-        }
+        let above = match judged(&row) {
+            Ok(above) => above,
+            Err(what) => {
+                println!("different: {what}: {place:?}");
+                return 1;
+            }
+        };
         (done, rows[place.degree]) = (done + 1, rows[place.degree] + 1);
         signs[1 + (above > 0.0) as usize - (above < 0.0) as usize] += 1;
         let farther = &mut farthest[place.degree];
@@ -216,11 +231,7 @@ pub fn compare(count: u64, seed: u64) -> u64 {
     }
     let different = stated();
     println!("straying: {done} rows of basis values, seed {seed}: exactly 1 {}, above {}, below {}; 4 stated sums", signs[1], signs[2], signs[0]);
-    let met = farthest.iter().flatten().map(|(far, place)| format!("{} {} 2^{:.2}", place.degree, rows[place.degree], far.abs().log2()));
-    println!("by degree the rows and the farthest: {}", met.collect::<Vec<_>>().join("; "));
-    if let Some((far, place)) = farthest.iter().flatten().max_by(|a, b| a.0.abs().total_cmp(&b.0.abs())) {
-        println!("the farthest of all: {far:e} from 1, {place:?}");
-    }
+    report(&farthest, &rows);
     println!("{different} different");
     different
 }
