@@ -1,4 +1,5 @@
--- The same of the values by which `read` weights the poles, and of those in a basis table. Assumes nothing.
+-- The same of the values by which `read` weights the poles, and of those in a basis table. The checks of `read` give flat knots that never fall and a range that is not
+-- empty; the clamped parameter lies in it, and so the span that is found holds it. A table's parameters lie in the range. Assumes nothing.
 use mathlib.Core.Path.{◌≡◌, refl, sym, subst}
 use mathlib.Core.Bool.{true, not}
 use mathlib.Core.List.{List}
