@@ -20,9 +20,12 @@ def parts(text):
     lines = text.split("\n")[:-1]
     middle = lines.index("x y z")
     runs = [line.split(" ") for line in lines[3:middle]]
+    degree = int(runs[0][1]) - 1
     flat = [double(knot) for knot, count in runs for _ in range(int(count))]
     poles = [[double(w) for w in line.split(" ")] for line in lines[middle + 1:]]
-    return len(flat) - len(poles) - 1, flat, poles
+    if len(flat) != len(poles) + degree + 1:
+        sys.exit("knots and poles do not fit: a line is missing")
+    return degree, flat, poles
 
 
 def basis(degree, flat, span, u):
@@ -46,7 +49,7 @@ def read(degree, flat, poles, u):
     u = first if u < first else u
     u = last if last < u else u
     spans = range(degree, len(flat) - 1 - degree)
-    span = max([s for s in spans if flat[s] <= u and flat[s] < flat[s + 1]], default=degree)
+    span = max(s for s in spans if flat[s] <= u and flat[s] < flat[s + 1])
     point = [0.0, 0.0, 0.0]
     for a, value in enumerate(basis(degree, flat, span, u)):
         point = [x + value * c for x, c in zip(point, poles[span - degree + a])]
