@@ -15,6 +15,7 @@ use crate::tally::{self, Tally};
 use std::collections::BTreeMap;
 use std::hint::black_box;
 
+pub mod archived;
 pub mod cards;
 pub mod wrapped;
 

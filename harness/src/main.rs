@@ -50,6 +50,7 @@ fn main() {
         Some("all") => all::compare(number(1, 100_000), number(2, 1), number(3, 1)),
         Some("try") => ladders::compare_stated() + grids::compare_stated() + readings::compare_stated(),
         Some("wrapper") => ladders::wrapped::compare(2_000, 1) + grids::wrapped::compare(500, 1) + readings::compare_wrapped(5_000, 1),
+        Some("archive") => ladders::archived::compare(number(1, 20_000), number(2, 1)),
         Some("straying") => straying::compare(number(1, 100_000), number(2, 1)),
         Some("answers") => answers::tell(number(1, 100_000), number(2, 1)),
         Some("list") if words.len() == 2 => ladders::list(&words[1]),
@@ -60,8 +61,8 @@ fn main() {
         Some("bench") if bench::run(words.get(1).map(String::as_str)) => 0,
         _ => {
             eprintln!("beside roots COUNT SEED | readings COUNT SEED | knots COUNT SEED | bands COUNT SEED | tables COUNT SEED");
-            eprintln!("     | ladders COUNT SEED | grids COUNT SEED | card COUNT SEED | all COUNT SEED THREADS | try | wrapper | straying COUNT SEED");
-            eprintln!("     | answers COUNT SEED | list FILE | stack | bench [roots | readings | bands | tables | ladders | grids]");
+            eprintln!("     | ladders COUNT SEED | grids COUNT SEED | card COUNT SEED | all COUNT SEED THREADS | try | wrapper");
+            eprintln!("     | archive COUNT SEED | straying COUNT SEED | answers COUNT SEED | list FILE | stack | bench [roots | readings | bands | tables | ladders | grids]");
             std::process::exit(2)
         }
     };

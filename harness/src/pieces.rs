@@ -141,10 +141,15 @@ pub fn approximate_measured(points: &[Point3D], degree: usize, count: usize, cen
     Some(measured(points, &basis, flat, poles))
 }
 
-/// Each point's distance from the fit read at the point's own parameter.
-pub fn deviations(points: &[Point3D], params: &[f64], degree: usize, (flat, poles): &Parts) -> Vec<f64> {
+/// The points of the fit at its points' own parameters.
+pub fn own_points(params: &[f64], degree: usize, (flat, poles): &Parts) -> Vec<Point3D> {
     let basis = BasisTable::new(flat, degree, params);
-    (0..points.len()).map(|k| basis.point(k, poles).distance(points[k])).collect()
+    (0..params.len()).map(|k| basis.point(k, poles)).collect()
+}
+
+/// Each point's distance from the fit read at the point's own parameter.
+pub fn deviations(points: &[Point3D], params: &[f64], degree: usize, parts: &Parts) -> Vec<f64> {
+    own_points(params, degree, parts).iter().zip(points).map(|(own, &point)| own.distance(point)).collect()
 }
 
 /// Whether interpolation leaves out a value other than 0: one outside the band that it solves.

@@ -2,10 +2,10 @@
 use mathlib.Core.Path.{◌≡◌, refl, ◌∙◌, ap}
 use mathlib.Core.Bool.{Bool, true, false, not, ◌||◌}
 use mathlib.Core.List.{List}
-use Prim.Native.Nat.{ℕ, ◌+◌, ◌-◌, ◌≤◌}
+use Prim.Native.Nat.{ℕ, ◌+◌, ◌-◌, ◌*◌, ◌/◌, ◌≤◌, ◌<◌}
 use native.Mathlib.Omega.{arith}
 use borrow.Author.Tests.{ltb-false, eqb-true, not-false}
-use lib.Dec.{ltb, eqb}
+use lib.Dec.{T, ltb, eqb, lit<}
 use lib.Ieee.{Float, le, is_nan}
 use lib.ListN.{length}
 use Rattle.places.proofs.PlaceLaws.{some_false, or_false}
@@ -13,13 +13,14 @@ use Rattle.geometry.specs.declared.Point.{Point}
 use Rattle.geometry.specs.Doubles.{at, is_finite}
 use Rattle.geometry.proofs.DoubleLaws.{finite_number}
 use Rattle.bspline.specs.declared.Refusal.{Refusal}
+use Rattle.bspline.specs.declared.Refusal.TheVariants.{TooFewPoints, InvalidDegree, DegreeTooHigh, TooManyPoles, ConfusedPoints, PoleCountMismatch, NotTriples, TooLarge, BufferTooShort, CoordinateOutOfRange, TooFewKnots, KnotsNotIncreasing, MultiplicityTooLarge, NotReadable, InvalidTarget, FactorOutOfRange, WeightCountMismatch, NonPositiveWeight, NotConvertible, StepsNotRising, DifferenceTooLarge}
 use Rattle.bspline.specs.declared.Verdict.{Verdict}
 use Rattle.bspline.specs.declared.Verdict.TheVariants.{Pass, Stop}
 use Rattle.bspline.specs.declared.Reading.{Reading}
 use Rattle.bspline.specs.declared.Reading.TheVariants.{Refused}
-use Rattle.bspline.specs.Refusals.{stop_if, ◌next◌}
+use Rattle.bspline.specs.Refusals.{number_of, stop_if, ◌next◌}
 use Rattle.bspline.specs.Spans.{NeverFalls, first_parameter, last_parameter}
-use Rattle.bspline.specs.Reader.{not_increasing, no_multiplicity, not_finite, not_readable, flat_knots, sizes_verdict, knots_verdict, reader_verdict, reading_of, reading_number, verdict_number, curve_point, Sized, Counted, Reads}
+use Rattle.bspline.specs.Reader.{multiplicity, not_increasing, inner_too_large, too_large, no_multiplicity, not_finite, not_readable, flat_knots, sizes_verdict, knots_verdict, reader_verdict, reading_of, reading_number, verdict_number, curve_point, Sized, Counted, Reads}
 use Rattle.bspline.proofs.ReaderLaws.{length-flat, flat_never_falls}
 
 -- both pass where the two pass together
@@ -32,6 +33,30 @@ pub test_fails : (b : Bool) (c : Refusal) → stop_if b c ≡ Pass → b ≡ fal
 unfolding stop_if
 test_fails true c e = let z : ◌≡◌ {A = ℕ} 0 1 = cc in absurd (omega arith)
 test_fails false c e = refl
+
+-- every refusal has a number
+pub numbered : (c : Refusal) → 0 < number_of c
+numbered TooFewPoints = lit< tt
+numbered InvalidDegree = lit< tt
+numbered DegreeTooHigh = lit< tt
+numbered TooManyPoles = lit< tt
+numbered ConfusedPoints = lit< tt
+numbered PoleCountMismatch = lit< tt
+numbered NotTriples = lit< tt
+numbered TooLarge = lit< tt
+numbered BufferTooShort = lit< tt
+numbered CoordinateOutOfRange = lit< tt
+numbered TooFewKnots = lit< tt
+numbered KnotsNotIncreasing = lit< tt
+numbered MultiplicityTooLarge = lit< tt
+numbered NotReadable = lit< tt
+numbered InvalidTarget = lit< tt
+numbered FactorOutOfRange = lit< tt
+numbered WeightCountMismatch = lit< tt
+numbered NonPositiveWeight = lit< tt
+numbered NotConvertible = lit< tt
+numbered StepsNotRising = lit< tt
+numbered DifferenceTooLarge = lit< tt
 
 -- ---- the answer of a check, and of those after it
 
@@ -109,10 +134,71 @@ readable n d knots mults u e =
 pub enough : (n d : ℕ) (knots : List Float) (mults : List ℕ) (u : Float) → not_readable n d knots mults u ≡ false → d + 1 ≤ n
 enough n d knots mults u e = ltb-false n (d + 1) (readable n d knots mults u e).poles
 
+-- no knot is a NaN
+pub numbers : (n d : ℕ) (knots : List Float) (mults : List ℕ) (u : Float) → not_readable n d knots mults u ≡ false → (k : ℕ) → k < length knots → T (not (is_nan (at knots k)))
+unfolding not_finite
+numbers n d knots mults u e k l =
+    finite_number (at knots k) (not-false _ (some_false (length knots) (λ j. not (is_finite (at knots j))) (readable n d knots mults u e).finite k l))
+
 pub never_falls : (n d : ℕ) (knots : List Float) (mults : List ℕ) (u : Float) → Counted n d knots mults → 1 ≤ length knots → not_readable n d knots mults u ≡ false → NeverFalls (flat_knots knots mults)
-unfolding not_finite not_increasing
+unfolding not_increasing
 never_falls n d knots mults u counted h e =
-    let finite = (readable n d knots mults u e).finite in
-    flat_never_falls knots mults
-    (λ k l. finite_number (at knots k) (not-false _ (some_false (length knots) (λ j. not (is_finite (at knots j))) finite k l)))
+    flat_never_falls knots mults (numbers n d knots mults u e)
     (λ k l. some_false (length knots - 1) (λ j. le (at knots (j + 1)) (at knots j)) counted.rising k (omega arith)) h
+
+-- ---- what a curve has that the reader takes
+
+pub record Taken (poles : List Float) (d : ℕ) (knots : List Float) (mults : List ℕ) (u : Float) : Type 0 where
+  pub sized : Sized (length poles) d (length knots) (length mults)
+  pub counted : Counted (length poles / 3) d knots mults
+  pub readable : not_readable (length poles / 3) d knots mults u ≡ false
+  pub many : length (flat_knots knots mults) ≡ length poles / 3 + d + 1
+  pub long : 2 * d + 2 ≤ length (flat_knots knots mults)
+  pub falls : NeverFalls (flat_knots knots mults)
+  -- neither end stands too often
+  pub first : multiplicity mults 0 ≤ d + 1
+  pub last : multiplicity mults (length mults - 1) ≤ d + 1
+
+ends_pass : (n d : ℕ) (knots : List Float) (mults : List ℕ) → knots_verdict n d knots mults ≡ Pass → (multiplicity mults 0 ≤ d + 1) × (multiplicity mults (length mults - 1) ≤ d + 1)
+unfolding knots_verdict too_large
+ends_pass n d knots mults e =
+    let e₁ = both_pass _ _ e in
+    let e₂ = both_pass _ _ e₁.1 in
+    let a = or_false (ltb (d + 1) (multiplicity mults 0)) (ltb (d + 1) (multiplicity mults (length mults - 1)) || inner_too_large d mults) (test_fails _ _ e₂.0) in
+    let b = or_false (ltb (d + 1) (multiplicity mults (length mults - 1))) (inner_too_large d mults) a.1 in
+    (ltb-false _ _ a.0, ltb-false _ _ b.0)
+
+module _ (poles : List Float) (d : ℕ) (knots : List Float) (mults : List ℕ) (u : Float) (e : reader_verdict poles d knots mults u ≡ Pass) where
+  abbrev n : ℕ
+  n = length poles / 3
+
+  passes : (sizes_verdict (length poles) d (length knots) (length mults) ≡ Pass) × ((knots_verdict n d knots mults ≡ Pass) × (not_readable n d knots mults u ≡ false))
+  unfolding reader_verdict
+  passes =
+      let e₁ = both_pass _ _ e in
+      let e₂ = both_pass _ _ e₁.1 in
+      (e₁.0, (e₂.0, test_fails _ _ e₂.1))
+
+  pub taken : Taken poles d knots mults u
+  taken =
+      let sized = sizes_pass (length poles) d (length knots) (length mults) passes.0 in
+      let counted = knots_pass n d knots mults passes.1.0 in
+      let ends = ends_pass n d knots mults passes.1.0 in
+      let count = flat-count n d knots mults sized.pairs counted in
+      record {
+        sized = sized;
+        counted = counted;
+        readable = passes.1.1;
+        many = count;
+        long = omega (arith, count, enough n d knots mults u passes.1.1);
+        falls = never_falls n d knots mults u counted (omega (arith, sized.two)) passes.1.1;
+        first = ends.0;
+        last = ends.1;
+      }
+
+  -- whether it is taken does not hang on the parameter, unless that is a NaN
+  pub taken_there : (w : Float) → is_nan w ≡ false → reader_verdict poles d knots mults w ≡ Pass
+  unfolding reader_verdict ◌next◌ stop_if not_readable
+  taken_there w f =
+      let r = readable n d knots mults u passes.1.1 in
+      rw (passes.0, passes.1.0, r.counted, r.finite, r.poles, r.range, f)

@@ -12,7 +12,7 @@ use lib.Ieee.{Float, binary64, lt, le, fits, is_nan}
 use lib.Ieee.Fits.{cond-fits}
 use borrow.Author.Tests.{not-false}
 use Rattle.geometry.specs.Doubles.{at}
-use Rattle.geometry.proofs.FloatOrder.{lt-or-le, le_left, le_right, le_self, le_transitive, above-le, holds, test, refute}
+use Rattle.geometry.proofs.FloatOrder.{lt-or-le, le_left, le_right, le_self, le_transitive, above-le, not-above, holds, test, refute}
 use Rattle.bspline.specs.Spans.{span_from, span_on, span_before, span_at, clamp, last_with, begins, wide, span_of, first_parameter, last_parameter, NeverFalls, InSpan, InRange}
 use Rattle.bspline.proofs.SpanLaws.{begins-down, span_before-next, span_before-in}
 
@@ -70,7 +70,7 @@ module _ (flat : List Float) (rising : NeverFalls flat) where
 
   -- ---- a table's searches, each from the span of the parameter before
   module _ (d : ℕ) (params : List Float) (h : 2 * d + 2 ≤ length flat) (p : InRange flat d params) where
-    before_holds : (k : ℕ) → k < length params → le (at flat (span_before flat d params k)) (at params k) ≡ true
+    pub before_holds : (k : ℕ) → k < length params → le (at flat (span_before flat d params k)) (at params k) ≡ true
     unfolding span_before
     before_holds zero l = p.from 0 l
     before_holds (suc k) l =
@@ -84,7 +84,11 @@ module _ (flat : List Float) (rising : NeverFalls flat) where
         rw (span_before-next flat d params k)
         (span_on_holds d (span_before flat d params k) (at params k) (span_before-in flat d params k h).1 (before_holds k l) (p.to k l))
 
--- ---- a parameter moved into the range from a to b lies in it
+-- ---- a parameter moved into the range from a to b lies in it, and one that is there stays
+
+pub clamp-inside : (u a b : Float) → le a u ≡ true → le u b ≡ true → clamp u a b ≡ u
+unfolding clamp
+clamp-inside u a b h k = rw (not-above a u h, not-above u b k)
 
 pub clamp_holds : (u a b : Float) → T (not (is_nan u)) → le a b ≡ true → (le a (clamp u a b) ≡ true) × (le (clamp u a b) b ≡ true)
 unfolding clamp

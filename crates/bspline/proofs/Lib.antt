@@ -4,4 +4,5 @@ pub mod Recurrence
 pub mod ReaderLaws
 pub mod CheckLaws
 pub mod HoldingLaws
+pub mod AgreeLaws
 pub mod Examples

@@ -1,47 +1,39 @@
 -- What stands in the slices after a ladder call is the text's fit, and a fit has few poles and knots. Assumes nothing.
-use Prim.Native.Nat.{ℕ, ◌+◌, ◌-◌, ◌*◌, ◌≤◌}
+use Prim.Native.Nat.{ℕ, ◌+◌, ◌*◌, ◌<◌, ◌≤◌}
 use mathlib.Core.Path.{◌≡◌, refl, sym, ap, ◌∙◌, subst}
 use mathlib.Core.List.{List}
 use mathlib.Core.Option.{Option, none, some}
 use native.Mathlib.Omega.{arith}
 use lib.Dec.{ltb}
-use lib.Ieee.{Float, nan, binary64, of_bits}
+use lib.Ieee.{Float, nan}
 use lib.ListN.{length, take, replicate, length-replicate}
 use Rattle.places.specs.Places.{list_of, laid}
-use Rattle.places.proofs.PlaceLaws.{part-laid, length-list_of, length-joined}
+use Rattle.places.proofs.PlaceLaws.{part-laid}
 use Rattle.places.proofs.GatheredLaws.{count_most}
-use Rattle.geometry.specs.declared.Point.{Point}
 use Rattle.geometry.specs.Doubles.{nought, at}
-use Rattle.geometry.specs.Points.{point_at, points_of}
-use Rattle.geometry.proofs.PointLaws.{length_put-point}
+use Rattle.geometry.specs.Points.{point_at}
 use Rattle.bspline.specs.declared.Refusal.{Refusal}
 use Rattle.bspline.specs.declared.Refusal.TheVariants.{ConfusedPoints}
 use Rattle.bspline.specs.declared.Verdict.{Verdict}
 use Rattle.bspline.specs.declared.Verdict.TheVariants.{Pass, Stop}
 use Rattle.knots.specs.declared.Metric.{Metric}
 use Rattle.knots.specs.Parameters.{point_parameters}
-use Rattle.knots.specs.Knots.{run_start, distinct_knots, knot_at, multiplicity_at, averaged_knot, averaged_knots}
-use Rattle.tables.specs.BasisTable.{BasisTable, basis_table}
+use Rattle.knots.specs.Knots.{run_start, distinct_knots, knot_at, multiplicity_at}
 use Rattle.tables.specs.Deviations.{unreadable}
-use Rattle.tables.specs.Directions.{ladder, ladder_point}
-use Rattle.solving.specs.Interpolation.{interpolation, line_through, interpolation_matrix}
-use Rattle.tables.proofs.SpliceLaws.{length-points}
-use Rattle.solving.proofs.ThroughLaws.{length_substitute}
-use Rattle.lu.specs.BandLu.{factor_band}
+use Rattle.tables.specs.Directions.{ladder}
 use Rattle.ladders.specs.declared.Answer.{Answer}
 use Rattle.ladders.specs.declared.Answer.TheVariants.{Fitted}
 use Rattle.checks.specs.declared.Call.{Call}
-use Rattle.fitting.specs.Within.{Candidate, Marked, interpolated, pole_count, candidate, interpolate, fit_within, refined_or, fit_with_refined_knots}
+use Rattle.fitting.specs.Within.{Candidate, Marked, pole_count}
 use Rattle.fitting.specs.Marks.{unmarked, mark_of, fit_of}
-use Rattle.checks.specs.LadderChecks.{Lent, point_count, ladder_checks}
+use Rattle.checks.specs.LadderChecks.{Lent, point_count, count_verdict, ladder_checks}
 use Rattle.making.specs.Results.{Result, refused, accepted, fit_by}
 use Rattle.ladders.specs.Ladders.{fit_with, ladder_fit, checked, result_of, answer_of, handed, handed_poles, handed_knots, handed_mults, LadderCall}
 use Rattle.checks.proofs.CheckLaws.{checks_give, count_under}
-use Rattle.fitting.proofs.ToleranceLaws.{ladder_lawful, length_clamped}
-use Rattle.making.proofs.HandedLaws.{From, refined_from, taken, alone_cases}
+use Rattle.making.proofs.HandedLaws.{From, taken}
+use Rattle.making.proofs.FitLaws.{call_from}
 use Rattle.ladders.proofs.LadderLaws.{params-long}
 use Rattle.card_reader.specs.declared.Tolerance.{Tolerance}
-use Rattle.card_reader.specs.declared.Tolerance.TheVariants.{Without, Within}
 use Rattle.card_printer.specs.Answer.{answer_text}
 use Rattle.card.specs.Answers.{call_of, buffers, fit_text, result_text, handed_text, FewIn}
 
@@ -51,51 +43,14 @@ pub record Stands (p n : ℕ) (f : Candidate) : Type 0 where
   pub high : length f.flat ≤ n + p + 1
   pub poles-long : length f.poles ≡ 3 * pole_count p f.flat
 
--- the poles of an interpolation
-line-long : (h n : ℕ) (band : List Float) (f : ℕ → Point) → length (line_through h n band f) ≡ 3 * n
-unfolding line_through
-line-long h n band f = length_put-point (n - 1) (f (n - 1)) _ ∙ length_put-point 0 (f 0) _ ∙ length_substitute h n band (points_of n f) ∙ length-points n f
-
-through-long : (t : BasisTable) (point : ℕ → ℕ → Point) → length (interpolation t 1 point) ≡ 1 * (3 * length t.firsts)
-unfolding interpolation
-through-long t point =
-    let n = length t.firsts in
-    let band = factor_band (t.degree - 1) n (interpolation_matrix t) in
-    length-joined 1 (3 * n) (λ r. line_through (t.degree - 1) n band (point r)) (λ r h. line-long (t.degree - 1) n band (point r))
-
-firsts-long : (flat : List Float) (p : ℕ) (params : List Float) → length (basis_table flat p params).firsts ≡ length params
-unfolding basis_table
-firsts-long flat p params = length-list_of (length params) _
-
-module _ (factor : Float) (s : List Float) (degree : ℕ) (params : List Float) where
-  from_stands : (f : Candidate) → From (ladder factor s degree params) f → Stands degree (length params) f
-  unfolding ladder
-  from_stands f h =
-      let e : length f.flat ≡ length h.knots = ap length h.own.flat_is in
-      let lo = h.sized.low in
-      let hi = h.sized.high in
-      let q = h.own.poles-long in
-      record { low = omega arith; high = omega arith; poles-long = omega arith }
-
-  -- the curve through the points has a pole for each
-  through_stands : Stands degree (length params) (interpolate (ladder factor s degree params))
-  unfolding interpolate candidate ladder averaged_knots
-  through_stands =
-      let flat = averaged_knots params degree in
-      let c = length_clamped (length params) degree (averaged_knot params degree) in
-      let i = through-long (basis_table flat degree params) (ladder_point s) in
-      let f = firsts-long flat degree params in
-      record { low = omega (arith, c); high = omega (arith, c); poles-long = omega (arith, c, i, f) }
-
-  within_stands : (t : Float) → degree + 1 ≤ length params → Stands degree (length params) (unmarked (fit_within (ladder factor s degree params) t))
-  unfolding fit_within refined_or unmarked ladder
-  within_stands t h = go (fit_with_refined_knots (ladder factor s degree params) t) refl
-    where
-      go : (o : Option Candidate) → fit_with_refined_knots (ladder factor s degree params) t ≡ o → Stands degree (length params) (unmarked (refined_or (ladder factor s degree params) t o))
-      go none e =
-          alone_cases (ladder factor s degree params) (ladder_lawful factor s degree params) t (λ (a : Marked). Stands degree (length params) (unmarked a))
-          (λ c f x y. from_stands f x) through_stands
-      go (some f) e = from_stands f (refined_from (ladder factor s degree params) t h f e)
+from_stands : (factor : Float) (s : List Float) (degree : ℕ) (params : List Float) (f : Candidate) → From (ladder factor s degree params) f → Stands degree (length params) f
+unfolding ladder
+from_stands factor s degree params f h =
+    let e : length f.flat ≡ length h.knots = ap length h.own.flat_is in
+    let lo = h.has.low in
+    let hi = h.has.high in
+    let q = h.own.poles-long in
+    record { low = omega arith; high = omega arith; poles-long = omega arith }
 
 -- what an answer and the slices have to be for a result
 abbrev pub Right : Answer → Lent → Result → Type 0
@@ -133,17 +88,13 @@ module _ (degree : ℕ) (l : Lent) where
   right-refused r c e = subst (λ (b : Answer). Right b l (refused c)) (sym e) (tt, refl)
 
 -- the fit that a tolerance asks for
-fit-right : (t : Tolerance) (factor : Float) (s : List Float) (degree : ℕ) (params : List Float) (l : Lent) (r : Answer) → degree + 1 ≤ length params → length params ≤ 64 → degree ≤ 25
-    → r ≡ answer_of degree (fit_by (call_of t) (ladder factor s degree params))
-    → l.poles ≡ handed_poles (fit_by (call_of t) (ladder factor s degree params)) buffers.poles
-    → l.knots ≡ handed_knots (fit_by (call_of t) (ladder factor s degree params)) buffers.knots
-    → l.mults ≡ handed_mults (fit_by (call_of t) (ladder factor s degree params)) buffers.mults
-    → Right r l (fit_by (call_of t) (ladder factor s degree params))
-unfolding fit_by unmarked
-fit-right Without factor s degree params l r under few low a p k m =
-    right-accepted degree l r (length params) few low (interpolated (interpolate (ladder factor s degree params))) (through_stands factor s degree params) a p k m
-fit-right (Within w) factor s degree params l r under few low a p k m =
-    right-accepted degree l r (length params) few low (fit_within (ladder factor s degree params) (of_bits binary64 w)) (within_stands factor s degree params (of_bits binary64 w) under) a p k m
+fit-right : (t : Tolerance) (factor : Float) (s : List Float) (degree : ℕ) (params : List Float) (l : Lent) (r : Answer)
+    → degree < length params → length params ≤ 64 → 1 ≤ degree → degree ≤ 25 → count_verdict (call_of t) (length params) degree ≡ Pass
+    → (x : Result) → fit_by (call_of t) (ladder factor s degree params) ≡ x → r ≡ answer_of degree x
+    → l.poles ≡ handed_poles x buffers.poles → l.knots ≡ handed_knots x buffers.knots → l.mults ≡ handed_mults x buffers.mults → Right r l x
+fit-right t factor s degree params l r under few low high e (refused c) q a p k m = right-refused degree l r c a
+fit-right t factor s degree params l r under few low high e (accepted b) q a p k m =
+    right-accepted degree l r (length params) few high b (from_stands factor s degree params (unmarked b) (call_from factor s degree params under (call_of t) low e b q)) a p k m
 
 by-tolerance : (t : Tolerance) (s : List Float) (degree : ℕ) (v : Metric) (l : Lent) (r : Answer) → length s ≤ 192 → LadderCall (call_of t) s degree v buffers l r
     → Right r l (result_of (call_of t) s degree v buffers)
@@ -163,8 +114,8 @@ by-tolerance t s degree v l r few c =
         let g = checks_give (call_of t) s degree v buffers e in
         let long = params-long v (point_count s) (point_at s) params u in
         let under = count_under (call_of t) (point_count s) degree g.1 g.0.low in
-        let high = g.0.high in
-        fit-right t v.factor s degree params l r (omega arith) (omega arith) high a p k m
+        let count = subst (λ (n : ℕ). count_verdict (call_of t) n degree ≡ Pass) (sym long) g.1 in
+        fit-right t v.factor s degree params l r (omega arith) (omega arith) g.0.low g.0.high count (fit_by (call_of t) (ladder v.factor s degree params)) refl a p k m
 
 -- after the program's call the slices hold the text's fit
 pub call-right : (t : Tolerance) (call : Call) → call ≡ call_of t → (s : List Float) (degree : ℕ) (v : Metric) (l : Lent) (r : Answer) → length s ≤ 192 → LadderCall call s degree v buffers l r

@@ -2,27 +2,26 @@
 -- an interpolated fit follows a refinement that gave none and a largest count that fails; and a larger tolerance takes the spread search alone to no more
 -- poles. Assumes nothing.
 use mathlib.Core.Path.{◌≡◌, refl, sym, ◌∙◌, ap, subst}
-use mathlib.Core.Bool.{Bool, true, false, cond, true≢false}
+use mathlib.Core.Bool.{true, true≢false}
 use mathlib.Core.List.{List}
 use mathlib.Core.Option.{Option, none, some}
-use Prim.Native.Nat.{ℕ, zero, suc, ◌+◌, ◌-◌, ◌<◌, ◌≤◌}
+use Prim.Native.Nat.{ℕ, ◌+◌, ◌-◌, ◌<◌, ◌≤◌}
 use native.Mathlib.Omega.{arith}
 use lib.ListN.{length}
 use lib.Ieee.{Float, le}
-use Rattle.geometry.specs.Doubles.{largest}
 use Rattle.places.proofs.PlaceLaws.{length-list_of}
-use Rattle.knots.specs.Knots.{clamped_knots, bezier_knots, averaged_knot, averaged_knots, spread_knot, approximation_knots}
+use Rattle.knots.specs.Knots.{clamped_knots, averaged_knot, averaged_knots, spread_knot, approximation_knots}
 use Rattle.tables.specs.BasisTable.{BasisTable}
 use Rattle.tables.specs.Deviations.{largest_within}
 use Rattle.tables.specs.Directions.{Direction, ladder, grid_rows, grid_columns}
 use Rattle.search.specs.declared.Found.{Found}
 use Rattle.search.specs.declared.Found.TheVariants.{At, Nothing}
 use Rattle.search.specs.Search.{fewest}
-use Rattle.refinement.specs.Refinement.{refined_knots}
-use Rattle.fitting.specs.Within.{Candidate, Marked, refined, spread, interpolated, chosen, pole_count, table_on, candidate, candidate_of, fit_on, fit_on_spread, interpolate, Refining, going, fitted, stuck, going_on, judged, refinement_round, refinement_rounds, fit_in, fit_with_refined_knots, candidate_passes, passes_on_spread, spread_or, found_or, fit_on_spread_knots, spread_alone, refined_or, fit_within, fewer_or, fit_within_fewest}
+use Rattle.fitting.specs.Within.{Candidate, Marked, refined, spread, interpolated, chosen, pole_count, candidate, candidate_of, fit_on, fit_on_spread, interpolate, fit_with_refined_knots, candidate_passes, passes_on_spread, spread_or, found_or, fit_on_spread_knots, spread_alone, refined_or, fit_within, fewer_or, fit_within_fewest}
 use Rattle.fitting.specs.Tolerance.{NoneAbove, Fails, KeepsTolerance}
 use Rattle.fitting.specs.Marks.{unmarked}
 use Rattle.search.proofs.Fewest.{IsFound, found, nothing, fewest_monotone}
+use Rattle.fitting.proofs.RefinedLaws.{refined_on}
 use Rattle.fitting.proofs.DeviationLaws.{all_none, all_mono, largest-none, largest_mono}
 
 -- what a direction's test has to keep for demand 3
@@ -54,51 +53,8 @@ other_mark : (a b : Marked) → mark_number a < mark_number b → a ≡ b → �
 other_mark a b h e = let m : mark_number a ≡ mark_number b = ap mark_number e in omega arith
 
 -- ---- refinement gives only what is within
-abbrev Close : Float → Refining → Type 0
-Close t s = (f : Candidate) → s ≡ fitted f → largest_within t f.distances ≡ true
-
-abbrev kind_number : Refining → ℕ
-kind_number (going k) = 0
-kind_number (fitted f) = 1
-kind_number stuck = 2
-
-not-fitted : (s : Refining) (f : Candidate) → (kind_number s ≡ 1 → ⊥) → s ≡ fitted f → ⊥
-not-fitted s f h e = h (ap kind_number e)
-
-judged_close : (d : Direction) (t : Float) (flat : List Float) (o : Option Candidate) → Close t (judged d t flat o)
-unfolding judged going_on
-judged_close d t flat none g e = absurd (not-fitted stuck g (λ q. omega arith) e)
-judged_close d t flat (some f) g e = go (largest_within t f.distances) refl (refined_knots d.params (table_on d flat).firsts (d.deviations f.distances) (largest f.distances) t d.degree flat) e
-  where
-    next_close : (o : Option (List Float)) → going_on o ≡ fitted g → ⊥
-    next_close none q = not-fitted stuck g (λ r. omega arith) q
-    next_close (some k) q = not-fitted (going k) g (λ r. omega arith) q
-
-    go : (b : Bool) → largest_within t f.distances ≡ b → (o : Option (List Float)) → cond b (fitted f) (going_on o) ≡ fitted g → largest_within t g.distances ≡ true
-    go true l o q = let r : f ≡ g = cc in rw (← r) l
-    go false l o q = absurd (next_close o q)
-
-round_close : (d : Direction) (t : Float) (s : Refining) → Close t s → Close t (refinement_round d t s)
-unfolding refinement_round
-round_close d t (going flat) h = judged_close d t flat (fit_on d flat)
-round_close d t (fitted f) h = h
-round_close d t stuck h = h
-
-rounds_close : (d : Direction) (t : Float) (k : ℕ) (s : Refining) → Close t s → Close t (refinement_rounds d t k s)
-unfolding refinement_rounds
-rounds_close d t zero s h = h
-rounds_close d t (suc k) s h = rounds_close d t k (refinement_round d t s) (round_close d t s h)
-
-in_close : (t : Float) (s : Refining) → Close t s → (f : Candidate) → fit_in s ≡ some f → largest_within t f.distances ≡ true
-unfolding fit_in
-in_close t (going k) h f e = let z : ◌≡◌ {A = ℕ} 0 1 = cc in absurd (omega arith)
-in_close t (fitted g) h f e = let q : g ≡ f = cc in h f (ap fitted q)
-in_close t stuck h f e = let z : ◌≡◌ {A = ℕ} 0 1 = cc in absurd (omega arith)
-
 pub refined_close : (d : Direction) (t : Float) (f : Candidate) → fit_with_refined_knots d t ≡ some f → largest_within t f.distances ≡ true
-unfolding fit_with_refined_knots
-refined_close d t f e =
-    in_close t _ (rounds_close d t (length d.params) (going (bezier_knots d.degree)) (λ g q. absurd (not-fitted (going (bezier_knots d.degree)) g (λ r. omega arith) q))) f e
+refined_close d t f e = (refined_on d t (λ flat. Unit {0}) (λ flat all g h q. tt) tt f e).close
 
 -- what is shown of a fit on spread knots of c poles
 pub record IsSpread (d : Direction) (t : Float) (c : ℕ) (f : Candidate) : Type 0 where

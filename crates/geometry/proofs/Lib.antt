@@ -15,3 +15,10 @@ mod QuickLaws
 pub mod Patterns
 mod Special
 mod WholePart
+pub mod ErrorLaws
+pub mod RoundingLaws
+pub mod UnitLaws
+pub mod OperationLaws
+pub mod ExactLaws
+pub mod ShareLaws
+pub mod SizeLaws

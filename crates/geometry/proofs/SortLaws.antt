@@ -1,9 +1,10 @@
 -- The laws of inserting into a sorted list, and of sorting. Assumes nothing.
-use Rattle.std.proofs.Common.{◌≡◌, ℕ, zero, suc, ◌+◌, ◌<◌, ◌≤◌, Bool, true, false, cond, T, ltb, leb, List, [], ◌∷◌, ◌++◌, length, get_or, take, drop, set, sym, refl, ap, ◌∙◌, subst, append_assoc, le_trans, le_of_lt, add-one, arith, length-append, drop_of_length-le, length-take-le, take_all, drop-cons, take-suc, take_at, drop_at, ltb-false, ltb-true, le-ltb, lt-ltb, le-leb, leb-false, leb-true}
+use Rattle.std.proofs.Common.{◌≡◌, ℕ, zero, suc, ◌+◌, ◌<◌, ◌≤◌, Bool, true, false, cond, T, ltb, leb, List, [], ◌∷◌, ◌++◌, length, get_or, take, drop, set, sym, refl, ap, ◌∙◌, subst, append_assoc, append-nil, le_trans, le_of_lt, add-one, arith, length-append, drop_of_length-le, length-take-le, take_all, drop-cons, take-suc, take_at, drop_at, ltb-false, ltb-true, le-ltb, lt-ltb, le-leb, leb-false, leb-true}
 use borrow.Author.Tests.{lt-leb}
 use lib.Seq.{take-length, split_at, set_at, get_or_at}
 use lib.Ieee.{Float, nan, ne, to_bits}
 use lib.Ieee.Compare.{differs_from_itself}
+use Rattle.places.specs.Places.{list_of}
 use Rattle.geometry.specs.Order.{rank_of, inserted, sorted_onto, sorted, NoneBelow, Ascending}
 
 -- ---- ranks
@@ -87,6 +88,65 @@ ascending-last w (x ∷ xs) a =
     let f = none-below-front w x xs a.0 in
     ((f.1, r.0), (f.0, r.1))
 
+-- ---- where a value goes: ys is xs with v at a place behind what ranks at or below it
+
+pub record Placed (v : Float) (xs ys : List Float) : Type 0 where
+  pub place : ℕ
+  pub within : place ≤ length xs
+  pub before : (i : ℕ) → i < place → get_or ys i nan ≡ get_or xs i nan
+  pub here : get_or ys place nan ≡ v
+  pub after : (i : ℕ) → place ≤ i → get_or ys (suc i) nan ≡ get_or xs i nan
+  pub next : place < length xs → rank_of v < rank_of (get_or xs place nan)
+  pub prior : (i : ℕ) → suc i ≡ place → rank_of (get_or xs i nan) ≤ rank_of v
+
+pub inserted-placed : (v : Float) (xs : List Float) → Placed v xs (inserted v xs)
+unfolding inserted
+inserted-placed v [] =
+    record {
+      place = 0;
+      within = omega arith;
+      before = λ i h. absurd (omega arith);
+      here = refl;
+      after = λ i h. refl;
+      next = λ h. absurd (omega arith);
+      prior = λ i e. absurd (omega arith);
+    }
+inserted-placed v (x ∷ xs) = go (ltb (rank_of v) (rank_of x)) refl (inserted-placed v xs)
+  where
+    behind : (r : Placed v xs (inserted v xs)) (i : ℕ) → i < suc r.place → get_or (x ∷ inserted v xs) i nan ≡ get_or (x ∷ xs) i nan
+    behind r zero h = refl
+    behind r (suc i) h = r.before i (omega arith)
+
+    beyond : (r : Placed v xs (inserted v xs)) (i : ℕ) → suc r.place ≤ i → get_or (x ∷ inserted v xs) (suc i) nan ≡ get_or (x ∷ xs) i nan
+    beyond r zero h = absurd (omega arith)
+    beyond r (suc i) h = r.after i (omega arith)
+
+    under : ltb (rank_of v) (rank_of x) ≡ false → (r : Placed v xs (inserted v xs)) (i : ℕ) → suc i ≡ suc r.place → rank_of (get_or (x ∷ xs) i nan) ≤ rank_of v
+    under e r zero q = ltb-false (rank_of v) (rank_of x) e
+    under e r (suc i) q = r.prior i (omega arith)
+
+    go : (b : Bool) → ltb (rank_of v) (rank_of x) ≡ b → Placed v xs (inserted v xs) → Placed v (x ∷ xs) (cond b (v ∷ x ∷ xs) (x ∷ inserted v xs))
+    go true e r =
+        record {
+          place = 0;
+          within = omega arith;
+          before = λ i h. absurd (omega arith);
+          here = refl;
+          after = λ i h. refl;
+          next = λ h. ltb-true (rank_of v) (rank_of x) e;
+          prior = λ i q. absurd (omega arith);
+        }
+    go false e r =
+        record {
+          place = suc r.place;
+          within = omega (arith, r.within);
+          before = behind r;
+          here = r.here;
+          after = beyond r;
+          next = λ h. r.next (omega arith);
+          prior = under e r;
+        }
+
 -- ---- what the loop of `sink` does: the value v looks for its place from place i down, each greater one moving up by one
 
 unfoldable pub sink_from : ℕ → Float → List Float → List Float
@@ -154,6 +214,47 @@ length_onto done (v ∷ xs) = omega (arith, length_onto (inserted v done) xs, le
 pub length-sorted : (xs : List Float) → length (sorted xs) ≡ length xs
 unfolding sorted
 length-sorted xs = omega (arith, length_onto [] xs)
+
+-- what ascends stays as it is
+ascending-front : (xs ys : List Float) → Ascending (xs ++ ys) → Ascending xs
+ascending-front [] ys a = tt
+ascending-front (x ∷ xs) ys a = (front xs a.0, ascending-front xs ys a.1)
+  where
+    front : (xs : List Float) → NoneBelow x (xs ++ ys) → NoneBelow x xs
+    front [] b = tt
+    front (z ∷ xs) b = (b.0, front xs b.1)
+
+onto_ascending : (done xs : List Float) → Ascending (done ++ xs) → sorted_onto done xs ≡ done ++ xs
+unfolding sorted_onto
+onto_ascending done [] a = sym (append-nil done)
+onto_ascending done (v ∷ xs) a =
+    let e : (done ++ (v ∷ [])) ++ xs ≡ done ++ v ∷ xs = append_assoc done (v ∷ []) xs in
+    let b : Ascending ((done ++ (v ∷ [])) ++ xs) = subst Ascending (sym e) a in
+    let low : NoneAbove v done = (ascending-last v done (ascending-front (done ++ (v ∷ [])) xs b)).0 in
+    ap (λ (l : List Float). sorted_onto l xs) (inserted-last v done low) ∙ onto_ascending (done ++ (v ∷ [])) xs b ∙ e
+
+pub sorted_ascending : (xs : List Float) → Ascending xs → sorted xs ≡ xs
+unfolding sorted
+sorted_ascending xs a = onto_ascending [] xs a
+
+-- a list of values whose ranks do not fall
+ascending-snoc : (v : Float) (xs : List Float) → NoneAbove v xs → Ascending xs → Ascending (xs ++ (v ∷ []))
+ascending-snoc v [] h a = (tt, tt)
+ascending-snoc v (x ∷ xs) h a = (back xs a.0, ascending-snoc v xs h.1 a.1)
+  where
+    back : (xs : List Float) → NoneBelow x xs → NoneBelow x (xs ++ (v ∷ []))
+    back [] b = (h.0, tt)
+    back (y ∷ xs) b = (b.0, back xs b.1)
+
+none-above_list : (n : ℕ) (f : ℕ → Float) (v : Float) → ((j : ℕ) → j < n → rank_of (f j) ≤ rank_of v) → NoneAbove v (list_of n f)
+unfolding list_of
+none-above_list zero f v h = tt
+none-above_list (suc n) f v h = none-above-snoc v (f n) (list_of n f) (none-above_list n f v (λ j l. h j (omega arith))) (h n (omega arith))
+
+pub ascending_list : (n : ℕ) (f : ℕ → Float) → ((j k : ℕ) → j < k → rank_of (f j) ≤ rank_of (f k)) → Ascending (list_of n f)
+unfolding list_of
+ascending_list zero f h = tt
+ascending_list (suc n) f h = ascending-snoc (f n) (list_of n f) (none-above_list n f (f n) (λ j l. h j n l)) (ascending_list n f h)
 
 -- a turn of `sort`: the value at place k is put among those before it
 pub sink_all : (l : List Float) (k : ℕ) → k < length l → Ascending (take k l) → sink_from k (get_or l k nan) l ≡ inserted (get_or l k nan) (take k l) ++ drop (k + 1) l

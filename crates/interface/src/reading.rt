@@ -1,7 +1,5 @@
 // The reader.
-ghost use Rattle.std.specs.Prelude.{◌≡◌};
-ghost use Rattle.bspline.specs.Reader.{reader_verdict, reading_of, curve_point, flat_knots};
-ghost use Rattle.interface.specs.ToldReading.{told_reading, told_point};
+ghost use Rattle.telling.specs.ToldReading.{ToldReads};
 
 use bspline::Reading;
 
@@ -15,10 +13,7 @@ pub extern "C" fn nigorzai_read(
     u: f64,
     out: &mut [f64],
 ) -> u32
-    ensures value { result ≡ told_reading out.old (reading_of (reader_verdict poles.now degree knots.now mults.now u)
-        (curve_point (flat_knots knots.now mults.now) degree poles.now u)) }
-    ensures out_after { out.new ≡ told_point out.old (reading_of (reader_verdict poles.now degree knots.now mults.now u)
-        (curve_point (flat_knots knots.now mults.now) degree poles.now u)) }
+    ensures { ToldReads poles.now degree knots.now mults.now u out.old out.new result }
 {
     if out.len() < 3 {
         return 9;

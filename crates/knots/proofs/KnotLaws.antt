@@ -1,17 +1,20 @@
 -- The laws of clamped, averaged and spread knots. Assumes nothing.
-use mathlib.Core.Path.{◌≡◌, refl, sym, ◌∙◌, ap}
+use mathlib.Core.Path.{◌≡◌, refl, sym, ◌∙◌, ap, subst}
+use mathlib.Core.Logic.{⊎_elim}
 use mathlib.Core.Bool.{cond}
 use mathlib.Core.List.{List}
 use Prim.Native.Nat.{ℕ, ◌+◌, ◌-◌, ◌<◌, ◌≤◌}
 use native.Mathlib.Numerals.{add-one}
 use native.Mathlib.Omega.{arith}
 use borrow.Author.Tests.{lt-ltb, le-ltb, le-leb, lt-leb}
-use lib.Dec.{leb, ltb}
+use lib.Dec.{T, leb, ltb}
 use lib.ListN.{length, set, get_or-eq_default}
-use lib.Ieee.{Float, nan, inf, fin, of_bits, add, mul, div}
+use lib.Ieee.{Float, nan, inf, fin, binary64, fits, of_bits, add, mul, div}
+use lib.Ieee.Bits.{of_bits-fits}
+use lib.Ieee.Fits.{nan-fits, add-fits, div-fits, cond-fits}
 use Rattle.places.specs.Places.{laid, list_of}
 use Rattle.places.specs.Regions.{part, splice}
-use Rattle.places.proofs.PlaceLaws.{length-list_of, laid_none, laid_next, laid_join, laid-below, part-before-laid, laid-order, laid_region}
+use Rattle.places.proofs.PlaceLaws.{length-list_of, list_of-at, le-or-lt, laid_none, laid_next, laid_join, laid-below, part-before-laid, laid-order, laid_region}
 use Rattle.places.proofs.RegionLaws.{get_d_part, length_part}
 use Rattle.geometry.specs.Doubles.{◌⊕◌, ◌⊖◌, ◌⊗◌, ◌⊘◌, nought, one, double, whole_part, at, sum_below}
 use Rattle.knots.specs.Knots.{clamped_knots, bezier_knots, carried, averaged_knot, averaged_knots, between_places, spread_knot, approximation_knots}
@@ -157,3 +160,43 @@ spread-next w work params n m p start j f knot e h l g =
     ∙ ap (λ (x : List Float). between_places x (double (j + 1) ⊗ (double (n - 1) ⊘ double (m - p)))) same
     ∙ ap (λ (x : ℕ). between_places (part params (params + n) w) (double (j + 1) ⊗ (double (x - 1) ⊘ double (m - p)))) long
     ∙ between-spread (part params (params + n) w) m p j
+
+-- ---- flat knots of degree d that start with d + 1 times 0 and end with d + 1 times 1, each a double
+
+pub record Ends (d : ℕ) (flat : List Float) : Type 0 where
+  pub first : (i : ℕ) → i ≤ d → at flat i ≡ nought
+  pub last : (i : ℕ) → length flat ≤ i + d + 1 → i < length flat → at flat i ≡ one
+  pub held : (i : ℕ) → T (fits binary64 (at flat i))
+
+pub clamped-ends : (m p : ℕ) (inner : ℕ → Float) → p < m → ((j : ℕ) → T (fits binary64 (inner j))) → Ends p (clamped_knots m p inner)
+unfolding clamped_knots
+clamped-ends m p inner h fine =
+    let n = length-list_of (m + p + 1) knot in
+    record {
+      first = λ i l. list_of-at (m + p + 1) knot i nan (omega arith) ∙ rw (le-leb i p l);
+      last = λ i g l. list_of-at (m + p + 1) knot i nan (omega arith) ∙ rw (lt-leb i p (omega arith), le-ltb i m (omega arith));
+      held = λ i. ⊎_elim (beyond i) (within i) (le-or-lt (m + p + 1) i);
+    }
+  where
+    knot : ℕ → Float
+    knot i = cond (leb i p) nought (cond (ltb i m) (inner (i - (p + 1))) one)
+
+    beyond : (i : ℕ) → m + p + 1 ≤ i → T (fits binary64 (at (list_of (m + p + 1) knot) i))
+    beyond i g = subst (λ (x : Float). T (fits binary64 x)) (sym (get_or-eq_default (list_of (m + p + 1) knot) nan (omega (arith, length-list_of (m + p + 1) knot)))) (nan-fits binary64)
+
+    within : (i : ℕ) → i < m + p + 1 → T (fits binary64 (at (list_of (m + p + 1) knot) i))
+    within i l =
+        subst (λ (x : Float). T (fits binary64 x)) (sym (list_of-at (m + p + 1) knot i nan l))
+        (cond-fits binary64 (leb i p) nought _ (of_bits-fits binary64 0) (cond-fits binary64 (ltb i m) (inner (i - (p + 1))) one (fine (i - (p + 1))) (of_bits-fits binary64 0x3ff0_0000_0000_0000)))
+
+pub averaged-ends : (params : List Float) (p : ℕ) → p < length params → Ends p (averaged_knots params p)
+unfolding averaged_knots averaged_knot
+averaged-ends params p h = clamped-ends (length params) p (averaged_knot params p) h (λ j. div-fits binary64 _ _)
+
+pub spread-ends : (params : List Float) (m p : ℕ) → p < m → Ends p (approximation_knots params m p)
+unfolding approximation_knots spread_knot between_places
+spread-ends params m p h = clamped-ends m p (spread_knot params m p) h (λ j. add-fits binary64 _ _)
+
+pub bezier-ends : (p : ℕ) → Ends p (bezier_knots p)
+unfolding bezier_knots
+bezier-ends p = clamped-ends (p + 1) p (λ j. nought) (omega arith) (λ j. of_bits-fits binary64 0)

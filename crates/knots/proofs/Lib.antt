@@ -4,3 +4,4 @@ pub mod SharedLaws
 pub mod LineLaws
 pub mod KnotLaws
 pub mod RunLaws
+pub mod StepLaws

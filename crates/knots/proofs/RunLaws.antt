@@ -1,18 +1,20 @@
 -- The laws of runs of equal knots. Assumes nothing.
-use mathlib.Core.Path.{◌≡◌, refl, ap}
+use mathlib.Core.Path.{◌≡◌, refl, sym, ap, ◌∙◌}
 use mathlib.Core.Bool.{Bool, true, false, cond}
-use mathlib.Core.List.{List}
-use mathlib.Core.Logic.{⊎_elim}
+use mathlib.Core.List.{List, [], ◌∷◌, ◌++◌, append_assoc, append-nil}
+use mathlib.Core.Logic.{◌⊎◌, inl, inr, ⊎_elim}
 use Prim.Native.Nat.{ℕ, zero, suc, ◌+◌, ◌-◌, ◌<◌, ◌≤◌}
 use native.Mathlib.Nat.{zero-add, eq-or-lt_of_le, not-suc-le-zero}
 use native.Mathlib.Numerals.{add-one}
 use native.Mathlib.Omega.{arith}
 use borrow.Author.Tests.{lt-ltb, le-ltb, not-true, not-false}
-use lib.ListN.{length}
-use lib.Ieee.{Float, eq, ne}
-use Rattle.places.specs.Places.{count_below}
+use lib.ListN.{length, take, replicate}
+use lib.Seq.{take-suc, take-length}
+use lib.Ieee.{Float, nan, eq, ne}
+use Rattle.places.specs.Places.{joined, count_below}
+use Rattle.places.proofs.PlaceLaws.{le-or-lt}
 use Rattle.geometry.specs.Doubles.{at}
-use Rattle.knots.specs.Knots.{equal_from, run_length, run_start, distinct_knots}
+use Rattle.knots.specs.Knots.{equal_from, run_length, run_start, distinct_knots, knot_at, multiplicity_at}
 
 -- one more place that equals x, and one that does not
 equal-more : (flat : List Float) (x : Float) (i c : ℕ) → 0 < c → ne x (at flat i) ≡ false → equal_from flat x i c ≡ 1 + equal_from flat x (i + 1) (c - 1)
@@ -88,3 +90,96 @@ distinct_is flat k e =
     (omega (arith, start-far flat 0 k, ap (run_start flat) (zero-add k)))
     (λ j h. lt-ltb _ (length flat) (omega (arith, start-rises flat j k (omega arith))))
     (λ j h. le-ltb _ (length flat) (omega (arith, start-rises flat k j h)))
+
+-- ---- the runs, one after the other, are the list, where the values of a run are the same
+
+module _ (flat : List Float) where
+  equal_in : (x : Float) (c i r : ℕ) → r < equal_from flat x i c → eq x (at flat (i + r)) ≡ true
+  unfolding equal_from
+  equal_in x zero i r h = absurd (not-suc-le-zero h)
+  equal_in x (suc c) i r h = pick (eq x (at flat i)) refl h (λ q l. equal_in x c (i + 1) q l)
+    where
+      pick : (b : Bool) → eq x (at flat i) ≡ b → r < cond b (1 + equal_from flat x (i + 1) c) 0 → ((q : ℕ) → q < equal_from flat x (i + 1) c → eq x (at flat (i + 1 + q)) ≡ true) → eq x (at flat (i + r)) ≡ true
+      pick false e l more = absurd (not-suc-le-zero l)
+      pick true e l more = ⊎_elim later (λ z. let p : i ≡ i + r = omega arith in ap (λ (k : ℕ). eq x (at flat k)) (sym p) ∙ e) (le-or-lt 1 r)
+        where
+          later : 1 ≤ r → eq x (at flat (i + r)) ≡ true
+          later o = let p : i + 1 + (r - 1) ≡ i + r = omega arith in ap (λ (k : ℕ). eq x (at flat k)) (sym p) ∙ more (r - 1) (omega arith)
+
+  -- every value of a run equals the first
+  pub run_equal : (i r : ℕ) → r < run_length flat i → (r ≡ 0) ⊎ (eq (at flat i) (at flat (i + r)) ≡ true)
+  unfolding run_length
+  run_equal i r h = ⊎_elim (λ o. inr (later o)) (λ z. inl (omega arith)) (le-or-lt 1 r)
+    where
+      later : 1 ≤ r → eq (at flat i) (at flat (i + r)) ≡ true
+      later o =
+          let p : i + 1 + (r - 1) ≡ i + r = omega arith in
+          ap (λ (k : ℕ). eq (at flat i) (at flat k)) (sym p) ∙ equal_in (at flat i) (length flat - i - 1) (i + 1) (r - 1) (omega arith)
+
+  -- a run has all the places that equal its first, one after the other
+  equal-to : (x : Float) (n c i : ℕ) → n ≤ c → ((r : ℕ) → r < n → eq x (at flat (i + r)) ≡ true) → n ≤ equal_from flat x i c
+  unfolding equal_from
+  equal-to x zero c i h e = omega arith
+  equal-to x (suc n) zero i h e = absurd (omega arith)
+  equal-to x (suc n) (suc c) i h e =
+      let here : i + 0 ≡ i = omega arith in
+      let first : eq x (at flat i) ≡ true = ap (λ (k : ℕ). eq x (at flat k)) (sym here) ∙ e 0 (omega arith) in
+      let rest = equal-to x n c (i + 1) (omega arith) (λ r l. let p : i + suc r ≡ i + 1 + r = omega arith in ap (λ (k : ℕ). eq x (at flat k)) (sym p) ∙ e (suc r) (omega arith)) in
+      rw first (omega (arith, rest))
+
+  pub run_from : (n : ℕ) → n < length flat → ((r : ℕ) → r ≤ n → eq (at flat 0) (at flat r) ≡ true) → n + 1 ≤ run_length flat 0
+  unfolding run_length
+  run_from n h e =
+      let m = equal-to (at flat 0) n (length flat - 0 - 1) (0 + 1) (omega arith) (λ r l. let p : 0 + 1 + r ≡ r + 1 = omega arith in ap (λ (k : ℕ). eq (at flat 0) (at flat k)) p ∙ e (r + 1) (omega arith)) in
+      omega (arith, m)
+
+  -- the runs are all of the list
+  reaches : (n k : ℕ) → length flat - run_start flat k ≤ n → run_start flat k ≤ length flat → (j : ℕ) × (run_start flat j ≡ length flat)
+  reaches zero k h l = (k, omega arith)
+  reaches (suc n) k h l =
+      let m = run-most flat (run_start flat k) in
+      let o = run-least flat (run_start flat k) in
+      let s = start-more flat k in
+      ⊎_elim (λ g. (k, omega arith)) (λ g. reaches n (k + 1) (omega (arith, m g)) (omega (arith, m g))) (le-or-lt (length flat) (run_start flat k))
+
+  pub runs_end : run_start flat (distinct_knots flat) ≡ length flat
+  unfolding run_start
+  runs_end =
+      let r = reaches (length flat) 0 (omega arith) (omega arith) in
+      ap (run_start flat) (distinct_is flat r.0 r.1) ∙ r.1
+
+  abbrev D : ℕ
+  D = distinct_knots flat
+
+  pub distinct-few : D ≤ length flat
+  unfolding run_start
+  distinct-few = let s = start-rises flat 0 D (omega arith) in omega (arith, runs_end)
+
+  run_in : (j : ℕ) → j < D → run_start flat j + run_length flat (run_start flat j) ≤ length flat
+  run_in j h = omega (arith, start-more flat j, start-rises flat (j + 1) D (omega arith), runs_end)
+
+  -- a run of x after the places before it
+  run-taken : (m i : ℕ) (x : Float) → i + m ≤ length flat → ((r : ℕ) → r < m → at flat (i + r) ≡ x) → take i flat ++ replicate m x ≡ take (i + m) flat
+  run-taken zero i x h same = let e : i + zero ≡ i = omega arith in append-nil (take i flat) ∙ ap (λ (n : ℕ). take n flat) (sym e)
+  run-taken (suc m) i x h same =
+      let here : i + 0 ≡ i = omega arith in
+      let there : suc i + m ≡ i + suc m = omega arith in
+      sym (append_assoc (take i flat) (x ∷ []) (replicate m x))
+      ∙ ap (λ (y : Float). (take i flat ++ (y ∷ [])) ++ replicate m x) (sym (same 0 (omega arith)) ∙ ap (at flat) here)
+      ∙ ap (λ (l : List Float). l ++ replicate m x) (sym (take-suc flat i nan (omega arith)))
+      ∙ run-taken m (suc i) x (omega arith) (λ r l. let e : suc i + r ≡ i + suc r = omega arith in ap (at flat) e ∙ same (suc r) (omega arith))
+      ∙ ap (λ (n : ℕ). take n flat) there
+
+  module _ (same : (j : ℕ) → j < D → (r : ℕ) → r < run_length flat (run_start flat j) → at flat (run_start flat j + r) ≡ at flat (run_start flat j)) where
+    abbrev pub run : ℕ → List Float
+    run j = replicate (multiplicity_at flat j) (knot_at flat j)
+
+    joined-runs : (k : ℕ) → k ≤ D → joined k run ≡ take (run_start flat k) flat
+    unfolding joined run_start multiplicity_at knot_at
+    joined-runs zero h = refl
+    joined-runs (suc k) h =
+        ap (λ (l : List Float). l ++ replicate (run_length flat (run_start flat k)) (at flat (run_start flat k))) (joined-runs k (omega arith))
+        ∙ run-taken (run_length flat (run_start flat k)) (run_start flat k) (at flat (run_start flat k)) (run_in k h) (same k h)
+
+    pub runs-back : joined D run ≡ flat
+    runs-back = joined-runs D (omega arith) ∙ ap (λ (n : ℕ). take n flat) runs_end ∙ take-length flat

@@ -104,8 +104,8 @@ module _ (v : Metric) (s : List Float) (degree : ℕ) (l l' : Lent) (r : Answer)
     unfolding distances_of ladder fit_of
     private-handed c u h =
         let k = h.knots in
-        let lo = h.sized.low in
-        let hi = h.sized.high in
+        let lo = h.has.low in
+        let hi = h.has.high in
         let q = h.own.poles-long in
         let fs : length c.flat ≡ length k = ap length h.own.flat_is in
         let a : length c.flat - degree - 1 + degree + 1 ≡ length c.flat = omega arith in

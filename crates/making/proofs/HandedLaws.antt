@@ -1,15 +1,13 @@
 -- How long the knots and poles of a fit are, and that what stands in the output slices is the fit itself. Assumes nothing.
 use mathlib.Core.Path.{◌≡◌, refl, sym, ◌∙◌, ap, subst}
-use mathlib.Core.Bool.{Bool, true, false, cond, ◌||◌, true≢false}
-use mathlib.Core.List.{List, [], ◌∷◌, ◌++◌}
+use mathlib.Core.Bool.{true, false}
+use mathlib.Core.List.{List, ◌++◌}
 use mathlib.Core.Option.{Option, none, some}
-use Prim.Native.Nat.{ℕ, zero, suc, ◌+◌, ◌-◌, ◌*◌, ◌<◌, ◌≤◌}
+use Prim.Native.Nat.{ℕ, ◌+◌, ◌-◌, ◌*◌, ◌<◌, ◌≤◌}
 use native.Mathlib.Omega.{arith}
-use lib.Dec.{eqb, leb, ltb}
-use lib.ListN.{length, take, drop, length-append}
+use lib.ListN.{length, take, drop}
 use lib.Seq.{ext_get_or}
 use lib.Ieee.{Float, nan}
-use borrow.Author.Tests.{leb-false}
 use Rattle.places.specs.Loops.{Outcome, outcome}
 use Rattle.places.specs.Places.{list_of, joined, laid, all_below}
 use Rattle.places.specs.Regions.{part}
@@ -17,20 +15,20 @@ use Rattle.places.proofs.RegionLaws.{length_part}
 use Rattle.places.proofs.PlaceLaws.{length-list_of, list_of-at, length-joined, part-laid, laid_copy}
 use Rattle.geometry.specs.declared.Point.{Point}
 use Rattle.geometry.specs.Doubles.{at, largest, is_finite}
-use Rattle.geometry.specs.Order.{rank_of, inserted, sorted_onto, sorted}
 use Rattle.cholesky.specs.Cholesky.{substitute_symmetric_band}
 use Rattle.knots.specs.Knots.{bezier_knots, approximation_knots}
+use Rattle.knots.proofs.KnotLaws.{length_bezier, length-spread}
 use Rattle.knots.proofs.ParameterLaws.{when-some}
 use Rattle.tables.specs.BasisTable.{BasisTable}
 use Rattle.solving.specs.LeastSquares.{right_hand, solved_lines, least_squares}
-use Rattle.tables.specs.Deviations.{largest_within}
 use Rattle.tables.specs.Directions.{Direction}
 use Rattle.solving.proofs.SquareLaws.{length-right, length_substituted}
-use Rattle.refinement.specs.Refinement.{with_knots, refined_knots}
+use Rattle.refinement.proofs.RoundLaws.{refined-grows}
 use Rattle.fitting.specs.declared.Mark.TheVariants.{Refined, Spread, Interpolated}
 use Rattle.fitting.specs.Marks.{mark_of}
-use Rattle.fitting.specs.Within.{Candidate, Marked, refined, spread, interpolated, chosen, interpolate, spread_alone, pole_count, table_on, candidate, candidate_of, fit_on, fit_on_spread, Refining, going, fitted, stuck, going_on, judged, refinement_round, refinement_rounds, fit_in, fit_with_refined_knots}
-use Rattle.fitting.proofs.ToleranceLaws.{Lawful, search_cases, spread-flat, poles-spread, length_clamped}
+use Rattle.fitting.specs.Within.{Candidate, Marked, refined, spread, interpolated, chosen, interpolate, spread_alone, pole_count, table_on, candidate, candidate_of, fit_on, fit_on_spread, fit_with_refined_knots}
+use Rattle.fitting.proofs.ToleranceLaws.{Lawful, search_cases, spread-flat, poles-spread}
+use Rattle.fitting.proofs.RefinedLaws.{next_knots, refined_on}
 
 -- ---- lengths of poles
 
@@ -65,97 +63,46 @@ pub fit_on_is : (d : Direction) (flat : List Float) (f : Candidate) → fit_on d
 unfolding fit_on
 fit_on_is d flat f e = private-fit d flat (least_squares (table_on d flat) (pole_count d.degree flat) d.lines d.point) refl f e
 
--- ---- lengths of knots: at least degree + 1, at most those of an interpolation
+-- ---- a fit on knots that have a property
+
+pub record FitOn (P : List Float → Type 0) (d : Direction) (f : Candidate) : Type 0 where
+  pub knots : List Float
+  pub has : P knots
+  pub own : IsFit d knots f
+
+-- lengths of knots: at least degree + 1, at most those of an interpolation
 pub record Sized (d : Direction) (flat : List Float) : Type 0 where
   pub low : d.degree + 1 ≤ length flat
   pub high : length flat ≤ length d.params + d.degree + 1
 
-pub record From (d : Direction) (f : Candidate) : Type 0 where
-  pub knots : List Float
-  pub sized : Sized d knots
-  pub own : IsFit d knots f
+abbrev pub From : Direction → Candidate → Type 0
+From d f = FitOn (Sized d) d f
 
-length_inserted : (v : Float) (xs : List Float) → length (inserted v xs) ≡ suc (length xs)
-unfolding inserted
-length_inserted v [] = refl
-length_inserted v (x ∷ xs) = go (ltb (rank_of v) (rank_of x)) (inserted v xs) (length_inserted v xs)
-  where
-    go : (b : Bool) (rest : List Float) → length rest ≡ suc (length xs) → length (cond b (v ∷ x ∷ xs) (x ∷ rest)) ≡ suc (suc (length xs))
-    go true rest h = refl
-    go false rest h = ap suc h
+-- by refinement: what the first round's knots have and each round keeps
+pub refined-fit : (P : List Float → Type 0) (d : Direction) (t : Float) → P (bezier_knots d.degree)
+    → ((flat all : List Float) (f : Candidate) → P flat → next_knots d t flat f ≡ some all → P all)
+    → (f : Candidate) → fit_with_refined_knots d t ≡ some f → FitOn P d f
+refined-fit P d t first keeps f e =
+    let r = refined_on d t P keeps first f e in
+    record { knots = r.flat; has = r.has; own = fit_on_is d r.flat f r.own }
 
-length_onto : (done vs : List Float) → length (sorted_onto done vs) ≡ length done + length vs
-unfolding sorted_onto
-length_onto done [] = omega arith
-length_onto done (v ∷ vs) = let a = length_onto (inserted v done) vs in let b = length_inserted v done in omega arith
+pub refined_from : (d : Direction) (t : Float) → d.degree + 1 ≤ length d.params → (f : Candidate) → fit_with_refined_knots d t ≡ some f → From d f
+refined_from d t h f e =
+    let l = length_bezier d.degree in
+    refined-fit (Sized d) d t (record { low = omega (arith, l); high = omega (arith, l) })
+    (λ flat all g s q. let r = refined-grows d.params (table_on d flat).firsts (d.deviations g.distances) (largest g.distances) t d.degree flat all q s.low in record { low = omega (arith, r.0, s.low); high = omega (arith, r.1) })
+    f e
 
-or_right : (a b : Bool) → (a || b) ≡ false → b ≡ false
-or_right true b e = absurd (true≢false e)
-or_right false b e = e
+-- on spread knots
+pub spread-fit : (P : List Float → Type 0) (d : Direction) (c : ℕ) → P (approximation_knots d.params c d.degree) → (f : Candidate) → fit_on_spread d c ≡ some f → FitOn P d f
+unfolding fit_on_spread
+spread-fit P d c has f e = record { knots = approximation_knots d.params c d.degree; has = has; own = fit_on_is d (approximation_knots d.params c d.degree) f e }
 
-with_sized : (n p : ℕ) (flat new all : List Float) → p + 1 ≤ length flat → with_knots n p flat new ≡ some all → (p + 1 ≤ length all) × (length all ≤ n + p + 1)
-unfolding with_knots sorted
-with_sized n p flat new all h e = go (eqb (length new) 0 || leb n (length flat - p - 1 + length new)) refl e
-  where
-    go : (b : Bool) → (eqb (length new) 0 || leb n (length flat - p - 1 + length new)) ≡ b → cond b none (some (sorted_onto [] (flat ++ new))) ≡ some all → (p + 1 ≤ length all) × (length all ≤ n + p + 1)
-    go true q r = let z : ◌≡◌ {A = ℕ} 0 1 = cc in absurd (omega arith)
-    go false q r =
-        let s : sorted_onto [] (flat ++ new) ≡ all = cc in
-        let k : length flat - p - 1 + length new < n = leb-false n (length flat - p - 1 + length new) (or_right (eqb (length new) 0) (leb n (length flat - p - 1 + length new)) q) in
-        let a = length_onto [] (flat ++ new) in
-        let b = length-append flat new in
-        let l : length (sorted_onto [] (flat ++ new)) ≡ length all = ap length s in
-        (omega arith, omega arith)
-
--- ---- the rounds
-abbrev Good : Direction → Refining → Type 0
-Good d (going flat) = Sized d flat
-Good d (fitted f) = From d f
-Good d stuck = Unit {0}
-
-module _ (d : Direction) (t : Float) where
-  next_good : (flat : List Float) → Sized d flat → (new : List Float) (o : Option (List Float)) → with_knots (length d.params) d.degree flat new ≡ o → Good d (going_on o)
-  unfolding going_on
-  next_good flat h new none e = tt
-  next_good flat h new (some all) e = let s = with_sized (length d.params) d.degree flat new all h.low e in record { low = s.0; high = s.1 }
-
-  judged_good : (flat : List Float) → Sized d flat → (o : Option Candidate) → fit_on d flat ≡ o → Good d (judged d t flat o)
-  unfolding judged refined_knots
-  judged_good flat h none e = tt
-  judged_good flat h (some f) e = go (largest_within t f.distances)
-    where
-      go : (b : Bool) → Good d (cond b (fitted f) (going_on (refined_knots d.params (table_on d flat).firsts (d.deviations f.distances) (largest f.distances) t d.degree flat)))
-      go true = record { knots = flat; sized = h; own = fit_on_is d flat f e }
-      go false = next_good flat h _ (refined_knots d.params (table_on d flat).firsts (d.deviations f.distances) (largest f.distances) t d.degree flat) refl
-
-  round_good : (s : Refining) → Good d s → Good d (refinement_round d t s)
-  unfolding refinement_round
-  round_good (going flat) h = judged_good flat h (fit_on d flat) refl
-  round_good (fitted f) h = h
-  round_good stuck h = h
-
-  rounds_good : (k : ℕ) (s : Refining) → Good d s → Good d (refinement_rounds d t k s)
-  unfolding refinement_rounds
-  rounds_good zero s h = h
-  rounds_good (suc k) s h = rounds_good k (refinement_round d t s) (round_good s h)
-
-  in_good : (s : Refining) → Good d s → (f : Candidate) → fit_in s ≡ some f → From d f
-  unfolding fit_in
-  in_good (going k) h f e = let z : ◌≡◌ {A = ℕ} 0 1 = cc in absurd (omega arith)
-  in_good (fitted g) h f e = let q : g ≡ f = cc in subst (From d) q h
-  in_good stuck h f e = let z : ◌≡◌ {A = ℕ} 0 1 = cc in absurd (omega arith)
-
-  pub refined_from : d.degree + 1 ≤ length d.params → (f : Candidate) → fit_with_refined_knots d t ≡ some f → From d f
-  unfolding fit_with_refined_knots bezier_knots
-  refined_from h f e =
-      let l = length_clamped (d.degree + 1) d.degree (λ j. Rattle.geometry.specs.Doubles.nought) in
-      in_good _ (rounds_good (length d.params) (going (bezier_knots d.degree)) (record { low = omega (arith, l); high = omega (arith, l) })) f e
+pub spread_sized : (d : Direction) (c : ℕ) → c ≤ length d.params → Sized d (approximation_knots d.params c d.degree)
+spread_sized d c h = let l = length-spread d.params c d.degree in record { low = omega (arith, l); high = omega (arith, l) }
 
 pub spread_from : (d : Direction) (c : ℕ) (f : Candidate) → c < length d.params → fit_on_spread d c ≡ some f → From d f
-unfolding fit_on_spread approximation_knots
-spread_from d c f h e =
-    let l = length_clamped c d.degree (Rattle.knots.specs.Knots.spread_knot d.params c d.degree) in
-    record { knots = approximation_knots d.params c d.degree; sized = record { low = omega (arith, l); high = omega (arith, l) }; own = fit_on_is d (approximation_knots d.params c d.degree) f e }
+spread_from d c f h e = spread-fit (Sized d) d c (spread_sized d c (omega arith)) f e
 
 -- ---- what stands in a slice is what was handed out
 list_is : (xs : List Float) → list_of (length xs) (at xs) ≡ xs

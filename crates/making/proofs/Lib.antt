@@ -2,3 +2,4 @@
 pub mod MakeLaws
 pub mod SavedLaws
 pub mod HandedLaws
+pub mod FitLaws

@@ -67,6 +67,14 @@ unfolding line_through
 length-line h n band f =
     length_put-point (n - 1) (f (n - 1)) _ ∙ length_put-point 0 (f 0) _ ∙ length_substitute h n band (points_of n f) ∙ length-points n f
 
+-- a curve through the points has a pole for each
+pub length_interpolation : (t : BasisTable) (point : ℕ → ℕ → Point) → length (interpolation t 1 point) ≡ 1 * (3 * length t.firsts)
+unfolding interpolation
+length_interpolation t point =
+    let n = length t.firsts in
+    let band = factor_band (t.degree - 1) n (interpolation_matrix t) in
+    length-joined 1 (3 * n) (λ r. line_through (t.degree - 1) n band (point r)) (λ r h. length-line (t.degree - 1) n band (point r))
+
 -- ---- the matrix
 module _ (t : Table) (work : List Float) (index : List ℕ) where
   -- a row, from the values that were lent

@@ -46,7 +46,7 @@ pub record Sound (d : Direction) (a : Marked) : Type 0 where
   pub sized : Sized d (unmarked a).flat
 
 from_sized : (d : Direction) (f : Candidate) → From d f → Sized d f.flat
-from_sized d f h = subst (Sized d) (sym h.own.flat_is) h.sized
+from_sized d f h = subst (Sized d) (sym h.own.flat_is) h.has
 
 sound-refined : (d : Direction) (f : Candidate) → From d f → Sound d (refined f)
 unfolding unmarked
@@ -155,8 +155,8 @@ module _ (g : Grid) (t : Float) (l l' : GridLent) (us vs : List Float) (n : leng
     unfolding distances_of fit_of along_u grid_columns surface_poles
     grid-handed c w h =
         let v = unmarked marked_v in
-        let lo = h.sized.low in
-        let hi = h.sized.high in
+        let lo = h.has.low in
+        let hi = h.has.high in
         let vz = v_sized g vs t (omega (arith, shaped.cols_two, degrees.v-under)) in
         let vlo = vz.0 in
         let vhi = vz.1 in

@@ -3,8 +3,9 @@ use Prim.Native.Nat.{ℕ, ◌+◌, ◌-◌, ◌*◌, ◌≤◌, ◌<◌}
 use native.Mathlib.Omega.{arith}
 use native.Mathlib.Nat.{zero-mul}
 use mathlib.Core.Path.{◌≡◌, refl, sym, ap, ◌∙◌, subst}
+use mathlib.Core.Bool.{true}
 use mathlib.Core.List.{List, ◌++◌}
-use lib.Ieee.{Float, nan}
+use lib.Ieee.{Float, nan, le}
 use lib.ListN.{length, set, take, drop, length-drop, take-append-drop}
 use lib.Seq.{take_at, drop_at, length-take-le}
 use Rattle.places.specs.Places.{list_of, joined, laid}
@@ -12,12 +13,17 @@ use Rattle.places.specs.Regions.{part, splice}
 use Rattle.places.proofs.PlaceLaws.{laid-front, laid-part, laid-append, length-laid, length-list_of, list_of-at, list_of-same, list_of_all, joined_at, length-joined, list_of-next, joined-next, length_filled, row_inside}
 use Rattle.places.proofs.RegionLaws.{length_part, length-splice, part-splice, get_d_part, part_same, get-same}
 use Rattle.geometry.specs.Doubles.{at}
-use Rattle.bspline.specs.Spans.{span_on, span_before, span_at}
+use Rattle.geometry.specs.Points.{point_at}
+use Rattle.geometry.proofs.PointLaws.{weighted-same}
+use Rattle.bspline.specs.Spans.{span_on, span_before, span_at, clamp, wide, first_parameter, last_parameter, NeverFalls, InRange}
+use Rattle.bspline.specs.Reader.{curve_point}
+use Rattle.bspline.proofs.HoldingLaws.{clamp-inside}
+use Rattle.bspline.proofs.AgreeLaws.{spans_agree}
 use Rattle.bspline.specs.Basis.{left_of, right_of, basis_at}
 use Rattle.bspline.proofs.SpanLaws.{span_fits, span_before-next, span_before-in}
 use Rattle.bspline.proofs.Recurrence.{length-basis_at, basis_agree}
 use Rattle.tables.specs.declared.Table.{Table}
-use Rattle.tables.specs.BasisTable.{BasisTable, basis_table, first, value}
+use Rattle.tables.specs.BasisTable.{BasisTable, basis_table, first, value, table_point}
 use Rattle.tables.specs.Layout.{table_in, FillsTable, HasTable}
 
 abbrev pub first_at : List Float → ℕ → List Float → ℕ → ℕ
@@ -188,6 +194,27 @@ row_values flat d params k h =
     let row : ℕ → List Float = row_at flat d params in
     let long : (j : ℕ) → length (row j) ≡ d + 1 = λ j. length-basis_at flat d (span_at flat d params j) (at params j) in
     list_of-same (d + 1) _ (at (row k)) (λ a l. joined_at (length params) (d + 1) row nan (λ j _. long j) k a h l) ∙ list_of_all (d + 1) (row k) nan (long k)
+
+-- a row for each parameter
+pub length_rows : (flat : List Float) (d : ℕ) (params : List Float) → length (basis_table flat d params).firsts ≡ length params
+unfolding basis_table
+length_rows flat d params = length-list_of (length params) _
+
+-- the reader's point at a parameter is the table's: both find the same span, where the last has a width if a parameter stands at the range's end
+module _ (flat : List Float) (falls : NeverFalls flat) (d : ℕ) (long : 2 * d + 2 ≤ length flat) (params : List Float) (p : InRange flat d params) where
+  pub point_read : (poles : List Float) (k : ℕ) → k < length params → (le (last_parameter flat d) (at params k) ≡ true → wide flat (length flat - d - 2) ≡ true)
+      → curve_point flat d poles (at params k) ≡ table_point (basis_table flat d params) poles 0 k
+  unfolding curve_point table_point basis_table
+  point_read poles k h end =
+      let u = at params k in
+      let s = span_at flat d params k in
+      let row = row_at flat d params in
+      let inside : clamp u (first_parameter flat d) (last_parameter flat d) ≡ u = clamp-inside u _ _ (p.from k h) (p.to k h) in
+      let same : first (basis_table flat d params) k ≡ s - d = list_of-at (length params) (first_at flat d params) k 0 h in
+      rw (inside, ← spans_agree flat falls d long params p k h end)
+      (weighted-same (d + 1) (at (row k)) (value (basis_table flat d params) k) (λ a. point_at poles (s - d + a)) (λ a. point_at poles (0 + first (basis_table flat d params) k + a))
+      (λ a l. sym (joined_at (length params) (d + 1) row nan (λ j i. length-basis_at flat d (span_at flat d params j) (at params j)) k a h l))
+      (λ a l. let e : s - d + a ≡ 0 + first (basis_table flat d params) k + a = omega arith in ap (point_at poles) e))
 
 -- each row's poles are among those that the flat knots have
 pub table-poles : (flat : List Float) (d : ℕ) (params : List Float) (k : ℕ) → 2 * d + 2 ≤ length flat → k < length params → first (basis_table flat d params) k + d < length flat - d - 1

@@ -1,3 +1,4 @@
 -- What a call for C hands back.
 pub mod Told
 pub mod ToldGrid
+pub mod ToldReading

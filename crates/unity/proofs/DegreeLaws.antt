@@ -11,13 +11,13 @@ use lib.Ieee.{Float, nan}
 use Rattle.places.specs.Places.{list_of}
 use Rattle.places.proofs.PlaceLaws.{list_of-at}
 use Rattle.geometry.specs.Doubles.{one, at}
-use Rattle.geometry.specs.Nearest.{in_units}
+use Rattle.geometry.specs.Nearest.{units_in_one, in_units}
 use Rattle.bspline.specs.Basis.{row, basis}
 use Rattle.bspline.proofs.Recurrence.{length-basis}
-use Rattle.unity.specs.Unity.{units_in_one, error_bound, exact_sum}
-use Rattle.unity.proofs.ErrorLaws.{Near, Close, close_refl, close_more, close_trans}
+use Rattle.unity.specs.Unity.{error_bound, exact_sum}
+use Rattle.geometry.proofs.ErrorLaws.{Near, Close, close_refl, close_more, close_trans}
 use Rattle.unity.proofs.SumLaws.{total, term_le, sum-list_of, sum-at}
-use Rattle.unity.proofs.UnitLaws.{NonNegative, one_nonnegative, one_units}
+use Rattle.geometry.proofs.UnitLaws.{NonNegative, one_nonnegative, one_units}
 use Rattle.unity.proofs.RowLaws.{Distances, row_nonnegative, row_sum}
 
 fewer : (left right : ℕ → Float) (d e : ℕ) → d ≤ e → Distances left right e → Distances left right d

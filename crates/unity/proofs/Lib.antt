@@ -1,8 +1,4 @@
--- The laws of rounding errors, and how near the basis functions' values add up to one. Other crates' proofs cite them as Rattle.unity.proofs.NAME.
-pub mod ErrorLaws
-pub mod RoundingLaws
-pub mod UnitLaws
-pub mod OperationLaws
+-- How near the basis functions' values add up to one. Other crates' proofs cite them as Rattle.unity.proofs.NAME.
 pub mod SumLaws
 pub mod SharingLaws
 pub mod RowLaws

@@ -3,7 +3,7 @@
 use mathlib.Core.Path.{◌≡◌, refl, sym, subst}
 use mathlib.Core.Bool.{true, not}
 use mathlib.Core.List.{List}
-use Prim.Native.Nat.{ℕ, ◌+◌, ◌-◌, ◌*◌, ◌/◌, ◌≤◌}
+use Prim.Native.Nat.{ℕ, ◌+◌, ◌-◌, ◌≤◌}
 use native.Mathlib.Omega.{arith}
 use lib.Dec.{T}
 use lib.ListN.{length}
@@ -15,13 +15,13 @@ use Rattle.geometry.proofs.FloatOrder.{test, le_left}
 use Rattle.bspline.specs.declared.Verdict.{Verdict}
 use Rattle.bspline.specs.declared.Verdict.TheVariants.{Pass, Stop}
 use Rattle.bspline.specs.declared.Reading.TheVariants.{Read}
-use Rattle.bspline.specs.Spans.{span_at, clamp, span_of, first_parameter, last_parameter, NeverFalls}
+use Rattle.bspline.specs.Spans.{span_at, clamp, span_of, first_parameter, last_parameter}
 use Rattle.bspline.specs.Basis.{basis_at}
 use Rattle.bspline.specs.Reader.{flat_knots, curve_point, reader_verdict, reading_of}
 use Rattle.bspline.proofs.SpanLaws.{span_of_in, span_before-in}
 use Rattle.bspline.proofs.HoldingLaws.{knots_order, span_of_holds, span_at_holds, clamp_holds, clamp-fits}
 use Rattle.bspline.proofs.ReaderLaws.{each_knot}
-use Rattle.bspline.proofs.CheckLaws.{both_pass, test_fails, sizes_pass, knots_pass, flat-count, readable, enough, never_falls}
+use Rattle.bspline.proofs.CheckLaws.{readable, taken}
 use Rattle.tables.proofs.TableLaws.{row_values}
 use Rattle.unity.specs.Unity.{NearlyOne, InUnitInterval, WideSpan, ReadingNearlyOne, TableNearlyOne}
 use Rattle.unity.proofs.UnityLaws.{nearly_one}
@@ -52,27 +52,19 @@ module _ (poles : List Float) (d : ℕ) (knots : List Float) (mults : List ℕ) 
 
   by_verdict : (w : Verdict) → reader_verdict poles d knots mults u ≡ w → Read q ≡ reading_of w (curve_point flat d poles u) → T (fits binary64 u) → InUnitInterval knots → WideSpan flat s
       → (q ≡ weighted (d + 1) (at (basis_at flat d s x)) (λ a. point_at poles (s - d + a))) × NearlyOne (basis_at flat d s x)
-  unfolding reader_verdict reading_of curve_point
+  unfolding reading_of curve_point
   by_verdict (Stop c) e f F Z W = let z : ◌≡◌ {A = ℕ} 0 1 = cc in absurd (omega arith)
   by_verdict Pass e f F Z W =
-      let e₁ = both_pass _ _ e in
-      let e₂ = both_pass _ _ e₁.1 in
-      let sized = sizes_pass _ _ _ _ e₁.0 in
-      let counted = knots_pass _ _ _ _ e₂.0 in
-      let passes = test_fails _ _ e₂.1 in
-      let count : length flat ≡ length poles / 3 + d + 1 = flat-count _ d knots mults sized.pairs counted in
-      let most = enough _ d knots mults u passes in
-      let long : 2 * d + 2 ≤ length flat = omega arith in
-      let number : T (not (is_nan u)) = rw (readable _ d knots mults u passes).number tt in
+      let t = taken poles d knots mults u e in
+      let number : T (not (is_nan u)) = rw (readable _ d knots mults u t.readable).number tt in
       let end = length flat - 1 - d in
       let K : InUnitInterval flat = flat_unit_interval knots mults Z in
-      let R : NeverFalls flat = never_falls _ d knots mults u counted (omega (arith, sized.two)) passes in
-      let range = knots_order flat R d end (omega arith) (omega arith) (le_left (at flat end) one (test (K.to_one end (omega arith)))) in
+      let range = knots_order flat t.falls d end (omega (arith, t.long)) (omega (arith, t.long)) (le_left (at flat end) one (test (K.to_one end (omega (arith, t.long))))) in
       let c = clamp_holds u (first_parameter flat d) (last_parameter flat d) number range in
-      let b = span_of_in flat d x long in (
+      let b = span_of_in flat d x t.long in (
         cc,
-        nearly_one flat d s x sized.low sized.high (omega arith) (clamp-fits u _ _ F (K.doubles d (omega arith)) (K.doubles end (omega arith))) R K
-            (span_of_holds flat R d x long c.0 c.1) W,
+        nearly_one flat d s x t.sized.low t.sized.high (omega arith) (clamp-fits u _ _ F (K.doubles d (omega (arith, t.long))) (K.doubles end (omega (arith, t.long)))) t.falls K
+            (span_of_holds flat t.falls d x t.long c.0 c.1) W,
       )
 
 pub reading_nearly_one : ReadingNearlyOne

@@ -9,14 +9,14 @@ use lib.Dec.{lit<, lit≤}
 use lib.Pow.{pow_pos}
 use lib.Ieee.{Float}
 use Rattle.geometry.specs.Doubles.{◌⊕◌, ◌⊗◌, ◌⊘◌, one}
-use Rattle.geometry.specs.Nearest.{in_units}
+use Rattle.geometry.specs.Nearest.{units_in_one, in_units}
 use Rattle.bspline.specs.Basis.{share, rising, row}
 use Rattle.bspline.proofs.Recurrence.{row_next, row_last}
-use Rattle.unity.specs.Unity.{units_in_one, least_width}
-use Rattle.unity.proofs.ErrorLaws.{Close, near_twice}
+use Rattle.unity.specs.Unity.{least_width}
+use Rattle.geometry.proofs.ErrorLaws.{Close, near_twice}
 use Rattle.unity.proofs.SumLaws.{total}
-use Rattle.unity.proofs.UnitLaws.{units_pos, NonNegative, nought_nonnegative, nought_units, one_nonnegative, one_units}
-use Rattle.unity.proofs.OperationLaws.{big, add_close, mul_close, div_close}
+use Rattle.geometry.proofs.UnitLaws.{units_pos, NonNegative, nought_nonnegative, nought_units, one_nonnegative, one_units}
+use Rattle.geometry.proofs.OperationLaws.{big, add_close, mul_close, div_close}
 use Rattle.unity.proofs.SharingLaws.{shared, row_close}
 
 -- ---- sizes on whole numbers: 1 is o units, and two distances come to at least q units

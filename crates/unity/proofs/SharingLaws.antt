@@ -4,7 +4,7 @@ use mathlib.Core.Path.{◌≡◌, subst}
 use Prim.Native.Nat.{ℕ, suc, ◌+◌, ◌*◌, ◌≤◌, ◌<◌}
 use native.Mathlib.Nat.{le_refl, mul-le-mul, mul-le-mul_left, mul-pos}
 use native.Mathlib.Omega.{arith}
-use Rattle.unity.proofs.ErrorLaws.{Close, near_absorb, close_refl, close_sym, close_more, close_trans, close_scale, close_unscale, close_add, close_as}
+use Rattle.geometry.proofs.ErrorLaws.{Close, near_absorb, close_refl, close_sym, close_more, close_trans, close_scale, close_unscale, close_add, close_as}
 use Rattle.unity.proofs.SumLaws.{total, total_close, telescope}
 
 -- n is shared into a and b as l is to r: w is r + l, i is 1 / w, t is n * i, a is l * t and b is r * t, each rounded. 1 is o units.

@@ -12,7 +12,7 @@ use Rattle.places.proofs.PlaceLaws.{list_of_all}
 use Rattle.geometry.specs.Doubles.{at}
 use Rattle.geometry.specs.Nearest.{in_units}
 use Rattle.unity.specs.Unity.{exact_sum}
-use Rattle.unity.proofs.ErrorLaws.{Close, close_add, close_as}
+use Rattle.geometry.proofs.ErrorLaws.{Close, close_add, close_as}
 
 -- f 0 + .. + f (n - 1)
 unfoldable pub total : (ℕ → ℕ) → ℕ → ℕ

@@ -10,16 +10,16 @@ use lib.Pow.{pow_pos}
 use lib.ListN.{length}
 use lib.Ieee.{Float, binary64, fits}
 use Rattle.geometry.specs.Doubles.{one, at}
-use Rattle.geometry.specs.Nearest.{in_units}
+use Rattle.geometry.specs.Nearest.{units_in_one, in_units}
 use Rattle.geometry.proofs.FloatOrder.{holds, test, le_left, le_transitive}
 use Rattle.bspline.specs.Spans.{NeverFalls, InSpan}
 use Rattle.bspline.proofs.Recurrence.{length-basis_at}
 use Rattle.bspline.specs.Basis.{left_of, right_of, basis_at}
 use Rattle.bspline.proofs.HoldingLaws.{knots_order}
-use Rattle.unity.specs.Unity.{units_in_one, least_width, InUnitInterval, WideSpan, BasisNearlyOne}
-use Rattle.unity.proofs.ErrorLaws.{Near, Close, near_twice}
-use Rattle.unity.proofs.UnitLaws.{units_pos, NonNegative, one_nonnegative, one_units, units_order, unit_interval, nonnegative_le, nonnegative_exact}
-use Rattle.unity.proofs.OperationLaws.{sub_close}
+use Rattle.unity.specs.Unity.{least_width, InUnitInterval, WideSpan, BasisNearlyOne}
+use Rattle.geometry.proofs.ErrorLaws.{Near, Close, near_twice}
+use Rattle.geometry.proofs.UnitLaws.{units_pos, NonNegative, one_nonnegative, one_units, units_order, unit_interval, nonnegative_le, nonnegative_exact}
+use Rattle.geometry.proofs.OperationLaws.{sub_close}
 use Rattle.unity.proofs.RowLaws.{Distances, least}
 use Rattle.unity.proofs.DegreeLaws.{adds_up, within}
 

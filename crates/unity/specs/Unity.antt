@@ -1,5 +1,5 @@
 -- Computed basis functions add up to one, nearly (The NURBS Book, P2.3 and P2.4; document 02, request Twelve). Definitions only.
--- Exact values are counted in units of 2 ^ -1074, the least positive `f64`: every finite `f64` is a whole number of them.
+-- Exact values are counted in units of 2 ^ -1074 (geometry's specs/Nearest).
 use Rattle.std.specs.Prelude.{ℕ, ◌+◌, ◌-◌, ◌*◌, ◌^◌, ◌≤◌, ◌<◌, ◌≡◌, true, List, [], ◌∷◌, T, length, Float}
 use Rattle.std.specs.Float.{binary64}
 use Rattle.std.specs.Float.Ieee.{fits, le}
@@ -7,7 +7,7 @@ use Rattle.std.specs.Float.Ieee.Digits.{Equals}
 use Rattle.places.specs.Places.{list_of}
 use Rattle.geometry.specs.declared.Point.{Point}
 use Rattle.geometry.specs.Doubles.{nought, one, at}
-use Rattle.geometry.specs.Nearest.{in_units}
+use Rattle.geometry.specs.Nearest.{units_in_one, in_units}
 use Rattle.geometry.specs.Points.{point_at, weighted}
 use Rattle.bspline.specs.declared.Reading.TheVariants.{Read}
 use Rattle.bspline.specs.Spans.{span_at, clamp, span_of, first_parameter, last_parameter, NeverFalls, InSpan, InRange}
@@ -15,10 +15,7 @@ use Rattle.bspline.specs.Basis.{basis_at}
 use Rattle.bspline.specs.Reader.{flat_knots, Reads}
 use Rattle.tables.specs.BasisTable.{basis_table, value}
 
--- 1, 2 ^ -20 and 2 ^ -40 in units
-abbrev pub units_in_one : ℕ
-units_in_one = 2 ^ 1074
-
+-- 2 ^ -20 and 2 ^ -40 in units
 abbrev pub least_width : ℕ
 least_width = 2 ^ 1054
 

@@ -1,9 +1,9 @@
 -- The reader as C sees it: the number, and the point in a lent slice. Definitions only.
-use Rattle.std.specs.Prelude.{cond, List, ℕ, ltb, length, Float}
+use Rattle.std.specs.Prelude.{◌≡◌, cond, List, ℕ, ltb, length, Float}
 use Rattle.geometry.specs.Points.{put_point}
 use Rattle.bspline.specs.declared.Reading.{Reading}
 use Rattle.bspline.specs.declared.Reading.TheVariants.{Read, Refused}
-use Rattle.bspline.specs.Reader.{reading_number}
+use Rattle.bspline.specs.Reader.{reader_verdict, reading_of, reading_number, curve_point, flat_knots}
 
 -- a reading's number, and 9 where the slice for the point is too short
 abbrev pub told_reading : List Float → Reading → ℕ
@@ -16,3 +16,8 @@ point_in out (Refused c) = out
 
 abbrev pub told_point : List Float → Reading → List Float
 told_point out r = cond (ltb (length out) 3) out (point_in out r)
+
+-- The contract of `nigorzai_read`. The slice for the point is out as lent and out' at exit.
+pub record ToldReads (poles : List Float) (degree : ℕ) (knots : List Float) (mults : List ℕ) (u : Float) (out out' : List Float) (r : ℕ) : Type 0 where
+  pub value : r ≡ told_reading out (reading_of (reader_verdict poles degree knots mults u) (curve_point (flat_knots knots mults) degree poles u))
+  pub out_after : out' ≡ told_point out (reading_of (reader_verdict poles degree knots mults u) (curve_point (flat_knots knots mults) degree poles u))

@@ -15,8 +15,7 @@ use lib.Ieee.Fits.{up_pos, down_pos, and_l}
 use lib.Ieee.Order.{le_of_values}
 use lib.Ieee.Positive.{positive, above_of_le, positive_of_value, values_of_le}
 use Rattle.geometry.specs.Doubles.{nought, one}
-use Rattle.geometry.specs.Nearest.{in_units}
-use Rattle.unity.specs.Unity.{units_in_one}
+use Rattle.geometry.specs.Nearest.{units_in_one, in_units}
 use Rattle.geometry.proofs.Correct.{plain_value}
 use Rattle.geometry.proofs.FloatOrder.{test}
 

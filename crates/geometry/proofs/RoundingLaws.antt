@@ -12,10 +12,10 @@ use lib.Ieee.Nearest.{closest, closest_same, nearest-ge}
 use lib.Ieee.Order.{drop, kept}
 use lib.Ieee.Scale.{grid}
 use Rattle.geometry.proofs.Whole.{Cmp, cmp}
-use Rattle.unity.proofs.ErrorLaws.{Close}
+use Rattle.geometry.proofs.ErrorLaws.{Close}
 
 -- ---- the whole number that is nearest to n / u is within one half of it
-abbrev Half : ℕ → ℕ → ℕ → Type 0
+abbrev pub Half : ℕ → ℕ → ℕ → Type 0
 Half n u q = (q * u * 2 ≤ n * 2 + u) × (n * 2 ≤ q * u * 2 + u)
 
 half : (n u q r : ℕ) (o : Ordering) → q * u + r ≡ n → r < u → Cmp o (r * 2) u → Half n u (nearest q o)
@@ -26,7 +26,7 @@ half n u q r Ordering.eq e l c =
     (omega arith, omega arith)
 half n u q r Ordering.gt e l c = (omega arith, omega arith)
 
-closest-half : (n u : ℕ) → 0 < u → Half n u (closest n u)
+pub closest-half : (n u : ℕ) → 0 < u → Half n u (closest n u)
 closest-half n u U = half n u (n / u) (n % u) (compare (n % u * 2) u) (div-add-mod' n u) (mod-lt n U) (cmp (n % u * 2) u)
 
 -- ---- where digits are dropped, the number has p digits at least, and so has the kept one
@@ -40,7 +40,7 @@ module _ (p n den : ℕ) (P : 0 < p) (D : 0 < den) (K : 0 < drop p n den) where
   long : 2 ^ (p - 1) * 2 ^ drop p n den ≤ n / den
   long = le_trans (le_of_eq (sym (pow-add 2 (p - 1) (drop p n den)))) (size_reaches (n / den) (p - 1 + drop p n den) (all_in_use (size (n / den)) p P K))
 
-  before : 2 ^ (p - 1) * unit ≤ n
+  pub before : 2 ^ (p - 1) * unit ≤ n
   before = le_trans (le_of_eq (omega arith)) ((le-div_iff_mul-le D).0 long)
 
   after : 2 ^ (p - 1) ≤ kept p n den

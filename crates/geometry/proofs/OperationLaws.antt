@@ -15,11 +15,10 @@ use lib.Ieee.Order.{drop, kept}
 use lib.Ieee.Positive.{first_pos}
 use lib.Ieee.Scale.{grid, overflow, round_same}
 use Rattle.geometry.specs.Doubles.{◌⊕◌, ◌⊖◌, ◌⊗◌, ◌⊘◌}
-use Rattle.geometry.specs.Nearest.{in_units}
-use Rattle.unity.specs.Unity.{units_in_one}
-use Rattle.unity.proofs.ErrorLaws.{Close, near_twice, close_unscale}
-use Rattle.unity.proofs.RoundingLaws.{round_close, grid-zero}
-use Rattle.unity.proofs.UnitLaws.{units_pos, Units, NonNegative, units_are, nonnegative_of, vanish}
+use Rattle.geometry.specs.Nearest.{units_in_one, in_units}
+use Rattle.geometry.proofs.ErrorLaws.{Close, near_twice, close_unscale}
+use Rattle.geometry.proofs.RoundingLaws.{round_close, grid-zero}
+use Rattle.geometry.proofs.UnitLaws.{units_pos, Units, NonNegative, units_are, nonnegative_of, vanish}
 
 -- ---- one rounding
 
@@ -38,7 +37,7 @@ big = 2 ^ 2096
 at_most : (g c n b : ℕ) → 0 < c → g * c ≤ 2 * (n + c) → n ≤ b * c → g ≤ 2 * (b + 1)
 at_most g c n b C h k = le_of_mul-le-mul_right {m = g} {n = 2 * (b + 1)} {k = c} (omega arith) C
 
-grid-fits : (v w : ℕ) → 0 < w → v * units_in_one ≤ big * w → grid binary64 v w < overflow binary64
+pub grid-fits : (v w : ℕ) → 0 < w → v * units_in_one ≤ big * w → grid binary64 v w < overflow binary64
 grid-fits v w W h =
     lt_of_le_of_lt
     (at_most (grid binary64 v w) w (v * units_in_one) big W (near_twice (2 ^ 53) 1 w (grid binary64 v w * w) (v * units_in_one) (pow_pos 53) (lit≤ tt) (round_close binary64 v w W).0) h)
@@ -64,16 +63,16 @@ rounded z v w W h r =
 
 -- ---- two fractions X / e and Y / d, which are a / o and b / o
 module _ (X e Y d a b o : ℕ) (O : 0 < o) (p : X * o ≡ a * e) (q : Y * o ≡ b * d) where
-  plus_cross : (X * d + Y * e) * o ≡ (a + b) * (e * d)
+  pub plus_cross : (X * d + Y * e) * o ≡ (a + b) * (e * d)
   plus_cross =
       let x = ap (λ (z : ℕ). z * d) p in
       let y = ap (λ (z : ℕ). z * e) q in
       omega arith
 
-  times_cross : X * Y * (o * o) ≡ a * b * (e * d)
+  pub times_cross : X * Y * (o * o) ≡ a * b * (e * d)
   times_cross = mul-mul-mul_comm X Y o o ∙ ap (λ (z : ℕ). z * (Y * o)) p ∙ ap (λ (z : ℕ). a * e * z) q ∙ mul-mul-mul_comm a e b d
 
-  over_cross : X * d * b ≡ a * (Y * e)
+  pub over_cross : X * d * b ≡ a * (Y * e)
   over_cross =
       let x = ap (λ (z : ℕ). z * (d * b)) p in
       let y = ap (λ (z : ℕ). a * e * z) q in

@@ -1,2 +1,0 @@
--- What the reader for C hands back.
-pub mod ToldReading
