@@ -97,6 +97,6 @@ fn one(random: &mut Random, tally: &mut Tally) -> Option<String> {
 }
 
 pub fn compare(count: u64, seed: u64) -> u64 {
-    let tally = Tally::default().expect(READINGS, [TAKEN, "12", "13", "14", "15", "6"]).expect(PLACES, [INSIDE, KNOT, ENDS[0], ENDS[1]]);
+    let tally = Tally::default().expect(READINGS, [TAKEN, "13", "14"]).expect(PLACES, [INSIDE, KNOT, ENDS[0], ENDS[1]]);
     tally::run("archive", count, seed, tally, |random, _, tally| (1, one(random, tally)))
 }

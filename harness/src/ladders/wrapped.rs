@@ -4,7 +4,7 @@ use crate::nigorzai::{self, Mark, Spacing};
 use crate::readings;
 
 /// The answer through the functions that allocate; the call's places are whole triples.
-pub fn wrapped(c: &Call) -> Result<nigorzai::Fit, u32> {
+pub(super) fn wrapped(c: &Call) -> Result<nigorzai::Fit, u32> {
     let points: Vec<[f64; 3]> = c.places.chunks_exact(3).map(|q| [q[0], q[1], q[2]]).collect();
     let spacing = if c.spacing == 0 { Spacing::Chordal } else { Spacing::Centripetal };
     match c.entry {
