@@ -126,7 +126,8 @@ uint32_t nigorzai_approximate_grid_within(
     const double *points, size_t points_length, size_t rows, size_t cols, size_t udegree, size_t vdegree, double tolerance,
     size_t spacing, double factor, NIGORZAI_GRID_LENT);
 
-/* The point of a curve at a parameter, in the first three places of `out`. */
+/* The point of a curve at a parameter, in the first three places of `out`. `degree` is the one of the fit: of a ladder's curve one less than
+ * the first multiplicity. Worked out from the number of poles it would hide that a line of the archive is missing. */
 uint32_t nigorzai_read(
     const double *poles, size_t poles_length, size_t degree, const double *knots, size_t knots_length, const uint32_t *mults,
     size_t mults_length, double u, double *out, size_t out_length);

@@ -10,7 +10,7 @@ use lib.ListN.{length, take, get_or}
 use lib.Ieee.{Float, nan}
 use Rattle.places.specs.Places.{list_of, laid}
 use Rattle.places.proofs.PlaceLaws.{length-list_of, list_of-at, part-laid}
-use Rattle.geometry.specs.Doubles.{at, largest}
+use Rattle.geometry.specs.Doubles.{nought, one, at, largest}
 use Rattle.geometry.specs.Points.{distance, point_at}
 use Rattle.bspline.specs.declared.Refusal.{Refusal}
 use Rattle.bspline.specs.declared.Verdict.{Verdict}
@@ -43,7 +43,7 @@ use Rattle.ladders.specs.Ladders.{fit_with, ladder_fit, checked, result_of, resu
 use Rattle.telling.specs.Told.{tellable, nothing, judged, told_largest, told_counts}
 use Rattle.archive.specs.Archive.{archived_poles, archived_knots, archived_mults, parameter_of, fit_point, ReadsBack, ArchiveReadsFit, ToldReadsFit}
 use Rattle.archive.proofs.EndLaws.{Curve, call-curve}
-use Rattle.archive.proofs.ReadLaws.{reads-taken, read-there, first-told, told-taken, told-read}
+use Rattle.archive.proofs.ReadLaws.{reads-taken, read-there, first-told, ends-told, told-taken, told-read}
 
 -- ---- what stands in the slices
 
@@ -151,6 +151,9 @@ module _ (call : Call) (s : List Float) (degree : ℕ) (v : Metric) (l l' : Lent
       degree-told : get_or (archived_mults f l') 0 0 ≡ degree + 1
       degree-told = ap (λ (m : List ℕ). get_or m 0 0) mults_are ∙ first-told c.flat degree curve-ends c.poles poles-long u made-taken
 
+      range-told : (at (archived_knots f l') 0 ≡ nought) × (at (archived_knots f l') (f.knots - 1) ≡ one)
+      range-told = rw (knots_are, knot-count) (ends-told c.flat degree curve-ends c.poles poles-long u made-taken)
+
     accepted-back : ReadsBack v s degree l' f
     unfolding ladder_distances fit_of
     accepted-back =
@@ -163,6 +166,7 @@ module _ (call : Call) (s : List Float) (degree : ℕ) (v : Metric) (l l' : Lent
           unread = rw (flat_is, poles_are, params_are) (ap (λ (g : Fit). g.unreadable) is ∙ ap unreadable distances_are);
           same = λ u p reads k h r there. there.answer ∙ answer u (reads-taken _ _ _ _ u p reads) k h;
           told = λ u some some' zero k h out out' r room there. told-read out out' r _ _ room there.value there.out_after (answer u (told-taken _ _ _ _ u some some' zero) k h);
+          range = λ u p reads. range-told u (reads-taken _ _ _ _ u p reads);
           first = λ u p reads. degree-told u (reads-taken _ _ _ _ u p reads);
         }
 

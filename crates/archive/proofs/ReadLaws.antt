@@ -28,7 +28,7 @@ use Rattle.tables.specs.BasisTable.{basis_table, table_point}
 use Rattle.tables.proofs.TableLaws.{point_read}
 use Rattle.checks.proofs.RisingLaws.{Rising}
 use Rattle.telling.specs.ToldReading.{told_reading, told_point, ToldReads}
-use Rattle.archive.proofs.RunLaws.{same-flat, last-wide, first-mult}
+use Rattle.archive.proofs.RunLaws.{same-flat, last-wide, first-mult, first-knot, last-knot}
 
 -- what reads at some parameter is taken
 pub reads-taken : (poles : List Float) (d : ℕ) (knots : List Float) (mults : List ℕ) (u : Float) (p : Point) → Reads poles d knots mults u (Read p) → reader_verdict poles d knots mults u ≡ Pass
@@ -87,6 +87,12 @@ module _ (flat : List Float) (d : ℕ) (ends : 2 * d + 2 ≤ length flat → End
 
     pub first-told : get_or mults 0 0 ≡ d + 1
     first-told = list_of-at D (multiplicity_at flat) 0 0 (omega (arith, two)) ∙ first-mult flat d (ends long) number rises two at_first at_last long
+
+    pub ends-told : (at knots 0 ≡ nought) × (at knots (D - 1) ≡ one)
+    ends-told = (
+      list_of-at D (knot_at flat) 0 nan (omega (arith, two)) ∙ first-knot flat d (ends long) number rises two at_first at_last,
+      list_of-at D (knot_at flat) (D - 1) nan (omega (arith, two)) ∙ last-knot flat d (ends long) number rises two at_first at_last,
+    )
 
     module _ (params : List Float) (n : ℕ) (rising : Rising params n) where
       range : InRange flat d params

@@ -61,39 +61,63 @@ module _ (flat : List Float) (d : ℕ) (ends : Ends d flat)
       ∙ joined_same D _ (run flat run-same) (λ k h. rw (list_of-at D (multiplicity_at flat) k 0 h, list_of-at D (knot_at flat) k nan h))
       ∙ runs-back flat run-same
 
+  -- the first run starts the list and is of zeros, the last ends it and is of ones
+  abbrev s : ℕ
+  s = run_start flat (distinct_knots flat - 1)
+
+  whole : s + run_length flat s ≡ length flat
+  whole = let n : distinct_knots flat - 1 + 1 ≡ distinct_knots flat = omega (arith, two) in sym (start-more flat (distinct_knots flat - 1)) ∙ ap (run_start flat) n ∙ runs_end flat
+
+  far : length flat ≤ s + d + 1
+  unfolding multiplicity_at
+  far = omega (arith, whole, at_last)
+
+  pub first-knot : knot_at flat 0 ≡ nought
+  unfolding knot_at run_start
+  first-knot = ends.first 0 (omega arith)
+
+  pub last-knot : knot_at flat (distinct_knots flat - 1) ≡ one
+  unfolding knot_at
+  last-knot = ends.last s far (omega (arith, whole, run-least flat s))
+
   -- so the last span has a width
   pub last-wide : 2 * d + 2 ≤ length flat → NeverFalls flat → wide flat (length flat - d - 2) ≡ true
-  unfolding multiplicity_at knot_at
+  unfolding knot_at
   last-wide long falls = pick (le (at flat (i + 1)) (at flat i)) refl
     where
       i : ℕ
       i = length flat - d - 2
 
-      s : ℕ
-      s = run_start flat (distinct_knots flat - 1)
-
       b : ℕ
       b = run_start flat (distinct_knots flat - 2)
 
-      pick : (w : Bool) → le (at flat (i + 1)) (at flat i) ≡ w → not w ≡ true
-      pick false e = refl
-      pick true e =
-          let n₁ : distinct_knots flat - 1 + 1 ≡ distinct_knots flat = omega (arith, two) in
-          let n₂ : distinct_knots flat - 2 + 1 ≡ distinct_knots flat - 1 = omega (arith, two) in
-          let whole : s + run_length flat s ≡ length flat = sym (start-more flat (distinct_knots flat - 1)) ∙ ap (run_start flat) n₁ ∙ runs_end flat in
-          let joins : s ≡ b + run_length flat b = sym (ap (run_start flat) n₂) ∙ start-more flat (distinct_knots flat - 2) in
-          let far : length flat ≤ s + d + 1 = omega (arith, whole, at_last) in
+      n : distinct_knots flat - 2 + 1 ≡ distinct_knots flat - 1
+      n = omega (arith, two)
+
+      joins : s ≡ b + run_length flat b
+      joins = sym (ap (run_start flat) n) ∙ start-more flat (distinct_knots flat - 2)
+
+      -- the value before the last run is that of the run before
+      value : at flat (s - 1) ≡ at flat b
+      value =
           let some = run-least flat b in
-          let most = run-least flat s in
           let before : b + (run_length flat b - 1) ≡ s - 1 = omega (arith, joins, some) in
-          let value : at flat (s - 1) ≡ at flat b = ap (at flat) (sym before) ∙ run-same (distinct_knots flat - 2) (omega (arith, two)) (run_length flat b - 1) (omega (arith, some)) in
-          let at-s : at flat s ≡ one = ends.last s far (omega (arith, whole, most)) in
+          ap (at flat) (sym before) ∙ run-same (distinct_knots flat - 2) (omega (arith, two)) (run_length flat b - 1) (omega (arith, some))
+
+      -- a last span without a width would have the last knot at or below the one before
+      thin : le (at flat (i + 1)) (at flat i) ≡ true → le (at flat s) (at flat b) ≡ true
+      thin e =
+          let most = run-least flat s in
+          let at_s : at flat s ≡ one = ends.last s far (omega (arith, whole, most)) in
           let at_i : at flat (i + 1) ≡ one = ends.last (i + 1) (omega (arith, long)) (omega (arith, long)) in
           let up : le (at flat i) (at flat (s - 1)) ≡ true =
           begins-down flat falls (at flat (s - 1)) i (s - 1) (omega (arith, far, long)) (omega (arith, whole, most))
           (holds _ (le_self (at flat (s - 1)) (subst (λ (x : Float). T (not (is_nan x))) (sym value) (number (distinct_knots flat - 2) (omega (arith, two)))))) in
-          let above_all : le (at flat s) (at flat b) ≡ true = rw (at-s, ← value, ← at_i) (le_transitive (at flat (i + 1)) (at flat i) (at flat (s - 1)) e up) in
-          absurd (true≢false (sym above_all ∙ ap (λ (k : ℕ). le (at flat (run_start flat k)) (at flat b)) (sym n₂) ∙ rises (distinct_knots flat - 2) (omega (arith, two))))
+          rw (at_s, ← value, ← at_i) (le_transitive (at flat (i + 1)) (at flat i) (at flat (s - 1)) e up)
+
+      pick : (w : Bool) → le (at flat (i + 1)) (at flat i) ≡ w → not w ≡ true
+      pick false e = refl
+      pick true e = absurd (true≢false (sym (thin e) ∙ ap (λ (k : ℕ). le (at flat (run_start flat k)) (at flat b)) (sym n) ∙ rises (distinct_knots flat - 2) (omega (arith, two))))
 
   -- and the first knot stands d + 1 times
   pub first-mult : 2 * d + 2 ≤ length flat → multiplicity_at flat 0 ≡ d + 1

@@ -1,8 +1,8 @@
 -- The archive reads what the fit saw (document 02, request Thirteen). Definitions only.
 -- All is said of what stands in the output slices when a ladder call returns, and of the promises alone, the call's and the reader's: so of every program that keeps them.
-use Rattle.std.specs.Prelude.{◌≡◌, List, ℕ, ◌+◌, ◌*◌, ◌≤◌, ◌<◌, length, take, set, get_or, Float}
+use Rattle.std.specs.Prelude.{◌≡◌, List, ℕ, ◌+◌, ◌-◌, ◌*◌, ◌≤◌, ◌<◌, length, take, set, get_or, Float}
 use Rattle.geometry.specs.declared.Point.{Point}
-use Rattle.geometry.specs.Doubles.{at, largest}
+use Rattle.geometry.specs.Doubles.{nought, one, at, largest}
 use Rattle.geometry.specs.Points.{distance, point_at, put_point}
 use Rattle.bspline.specs.declared.Reading.{Reading}
 use Rattle.bspline.specs.declared.Reading.TheVariants.{Read}
@@ -63,7 +63,8 @@ pub record ReadsBack (v : Metric) (s : List Float) (degree : ℕ) (l : Lent) (f 
   pub told : (u : Float) (some some' : List Float) → ToldArchived degree f l u some some' 0
       → (k : ℕ) → k < point_count s → (out out' : List Float) (r : ℕ) → 3 ≤ length out → ToldArchived degree f l (parameter_of v s degree k) out out' r
       → (r ≡ 0) × (out' ≡ put_point 0 (fit_point v s degree f l k) out)
-  -- And the degree, which the archive does not name, is one less than the first multiplicity.
+  -- And its knots begin at 0 and end at 1; the degree, which the archive does not name, is one less than the first multiplicity.
+  pub range : (u : Float) (p : Point) → ReadsArchived degree f l u (Read p) → (at (archived_knots f l) 0 ≡ nought) × (at (archived_knots f l) (f.knots - 1) ≡ one)
   pub first : (u : Float) (p : Point) → ReadsArchived degree f l u (Read p) → get_or (archived_mults f l) 0 0 ≡ degree + 1
 
 -- by any ladder call

@@ -39,7 +39,7 @@ impl Archived {
     }
 
     /// What is wrong with the readings, if anything is: a point that is not the fit's own, a refusal at some of the parameters alone, a first multiplicity that does
-    /// not tell the degree, or a largest deviation that is not that of the points read.
+    /// not tell the degree, knots that do not go from 0 to 1, or a largest deviation that is not that of the points read.
     fn wrong(&self) -> Option<String> {
         let answers: Vec<_> = self.params.iter().map(|&u| self.read(u)).collect();
         if let Err(number) = answers[0] {
@@ -50,12 +50,15 @@ impl Archived {
             let same = answer.is_ok_and(|q| all_same(&q, &[x, y, z]));
             (!same).then(|| format!("point {k} is {:?} in the fit and {answer:?} in the archive", [x, y, z]))
         };
-        let first = self.fit.along.mults[0] as usize != self.fit.along.degree + 1;
+        let along = &self.fit.along;
+        let first = along.mults[0] as usize != along.degree + 1;
+        let ends = !all_same(&[along.knots[0], along.knots[along.knots.len() - 1]], &[0.0, 1.0]);
         let deviations = |answer: &Result<[f64; 3], u32>, point: &Point3D| answer.map_or(f64::NAN, |q| Point3D::new(q[0], q[1], q[2]).distance(*point));
         let largest = fold(&answers.iter().zip(&self.points).map(|(a, p)| deviations(a, p)).collect::<Vec<_>>());
         (answers.iter().enumerate().find_map(unlike))
             .or_else(|| first.then(|| "the first multiplicity does not tell the degree".into()))
-            .or_else(|| (!all_same(&[largest], &[self.fit.along.largest])).then(|| format!("the points read lie {largest:?} away at most")))
+            .or_else(|| ends.then(|| "the knots do not go from 0 to 1".into()))
+            .or_else(|| (!all_same(&[largest], &[along.largest])).then(|| format!("the points read lie {largest:?} away at most")))
     }
 
     /// Where a parameter stands.
