@@ -138,6 +138,12 @@ module _ (call : Call) (s : List Float) (degree : ℕ) (v : Metric) (l l' : Lent
     points : (flat : List Float) → parameter_count (basis_table flat degree params) ≡ n
     points flat = length_rows flat degree params ∙ rising.long
 
+    own-point : (k : ℕ) → fit_point v s degree f l' k ≡ table_point (basis_table c.flat degree params) c.poles 0 k
+    own-point k =
+        ap (λ (x : List Float). table_point (basis_table x degree (ladder_of v s degree).params) (archived_poles f l') 0 k) flat_is
+        ∙ ap (λ (x : List Float). table_point (basis_table c.flat degree x) (archived_poles f l') 0 k) params_are
+        ∙ ap (λ (x : List Float). table_point (basis_table c.flat degree params) x 0 k) poles_are
+
     -- where the reader takes what is archived, it takes the fit's own curve, and its answer at each parameter is the fit's own point
     module _ (u : Float) (takes : reader_verdict (archived_poles f l') degree (archived_knots f l') (archived_mults f l') u ≡ Pass) where
       made-taken : reader_verdict c.poles degree (list_of (distinct_knots c.flat) (knot_at c.flat)) (list_of (distinct_knots c.flat) (multiplicity_at c.flat)) u ≡ Pass
@@ -146,7 +152,7 @@ module _ (call : Call) (s : List Float) (degree : ℕ) (v : Metric) (l l' : Lent
       answer : (k : ℕ) → k < n
           → reading_of (reader_verdict (archived_poles f l') degree (archived_knots f l') (archived_mults f l') (parameter_of v s degree k))
           (curve_point (flat_knots (archived_knots f l') (archived_mults f l')) degree (archived_poles f l') (parameter_of v s degree k)) ≡ Read (fit_point v s degree f l' k)
-      answer k h = rw (poles_are, knots_are, mults_are, params_are, flat_is) (read-there c.flat degree curve-ends c.poles poles-long u made-taken params n rising k h)
+      answer k h = rw (poles_are, knots_are, mults_are, params_are) (read-there c.flat degree curve-ends c.poles poles-long u made-taken params n rising k h) ∙ ap Read (sym (own-point k))
 
       degree-told : get_or (archived_mults f l') 0 0 ≡ degree + 1
       degree-told = ap (λ (m : List ℕ). get_or m 0 0) mults_are ∙ first-told c.flat degree curve-ends c.poles poles-long u made-taken
