@@ -29,41 +29,35 @@ use Rattle.bspline.proofs.CheckLaws.{both_pass, test_fails}
 use Rattle.knots.specs.declared.Metric.{Metric}
 use Rattle.knots.specs.Parameters.{confusion, chords, step_of, step_sums, from_zero_to_one, point_parameters}
 use Rattle.knots.proofs.ParameterLaws.{unless-some, sum_to, sums_at, length-zero_to-one}
-use Rattle.knots.proofs.StepLaws.{Near, Step, chord-step, spacing-step, least_step, sums-order, sums-exact, total-least, total-most}
+use Rattle.knots.proofs.StepLaws.{Bounded, Step, chord-step, spacing-step, least_step, sums-order, sums-exact, total-least, total-most}
 use Rattle.checks.specs.declared.Call.{Call}
 use Rattle.checks.specs.LadderChecks.{Lent, point_count, shape_verdict, count_verdict, room_verdict, room_of, coordinates_verdict, ladder_checks}
 use Rattle.checks.proofs.CheckLaws.{checks_give}
 
 -- ---- sizes that the checks 10 and 17 let pass
 
-at_most : (a b : ℕ) → T (ltb a b || (eqb a b && true)) → a ≤ b
-at_most a b t = go (ltb a b) (ltb→lt a b) t
+-- below or level
+at_most : (a b : ℕ) (level : Bool) → (T level → a ≡ b) → T (ltb a b || (level && true)) → a ≤ b
+at_most a b level same t = go (ltb a b) (ltb→lt a b) t
   where
-    go : (w : Bool) → (T w → a < b) → T (w || (eqb a b && true)) → a ≤ b
+    go : (w : Bool) → (T w → a < b) → T (w || (level && true)) → a ≤ b
     go true h t = le_of_lt (h tt)
-    go false h t = le_of_eq (eqb→eq a b (and_l (eqb a b) true t))
-
-at_least : (a b : ℕ) → T (ltb b a || (eqb a b && true)) → b ≤ a
-at_least a b t = go (ltb b a) (ltb→lt b a) t
-  where
-    go : (w : Bool) → (T w → b < a) → T (w || (eqb a b && true)) → b ≤ a
-    go true h t = le_of_lt (h tt)
-    go false h t = le_of_eq (sym (eqb→eq a b (and_l (eqb a b) true t)))
+    go false h t = le_of_eq (same (and_l level true t))
 
 million : (x : Float) → T (le x (of_bits binary64 0x412e_8480_0000_0000)) → T (le (neg (of_bits binary64 0x412e_8480_0000_0000)) x) → Size x (2 ^ 20)
 unfolding le neg of_bits
 million nan h k = absurd h
 million (inf true) h k = absurd k
 million (inf false) h k = absurd h
-million (fin false m e) h k = let l = at_most (m * up e * 1) (1000000 * down e) h in omega arith
-million (fin true m e) h k = let l = at_least (1000000 * down e) (m * up e * 1) k in omega arith
+million (fin false m e) h k = let l = at_most (m * up e * 1) (1000000 * down e) _ (eqb→eq (m * up e * 1) (1000000 * down e)) h in omega arith
+million (fin true m e) h k = let l = at_most (m * up e * 1) (1000000 * down e) _ (λ s. sym (eqb→eq (1000000 * down e) (m * up e * 1) s)) k in omega arith
 
 four : (x : Float) → T (le x (of_bits binary64 0x4010_0000_0000_0000)) → T (le (of_bits binary64 0x3fd0_0000_0000_0000) x) → Size x 4
 unfolding le of_bits
 four nan h k = absurd h
 four (inf true) h k = absurd k
 four (inf false) h k = absurd h
-four (fin false m e) h k = let l = at_most (m * up e * 1) (4 * down e) h in omega arith
+four (fin false m e) h k = let l = at_most (m * up e * 1) (4 * down e) _ (eqb→eq (m * up e * 1) (4 * down e)) h in omega arith
 four (fin true m e) h k =
     let z : 1 * down e ≡ 0 = eqb→eq (1 * down e) 0 (and_r (eqb (1 * down e) (m * up e * 4)) (eqb (1 * down e) 0) k) in
     let d = down_pos e in
@@ -84,12 +78,13 @@ factor_size f e = let b = both_hold _ _ (test_fails _ _ e) in four f (test b.0) 
 
 -- ---- the parameters of points that are not confused
 
+-- n parameters that never fall, each from 0 to 1 without a minus sign
 pub record Rising (params : List Float) (n : ℕ) : Type 0 where
   pub long : length params ≡ n
   pub shares : (k : ℕ) → k < n → Share (at params k)
   pub ascending : NeverFalls params
 
-module _ (v : Metric) (n : ℕ) (point : ℕ → Point) (two : 2 ≤ n) (few : n ≤ 1024) (small : Size v.factor 4) (near : (k : ℕ) → k < n → Near (point k)) where
+module _ (v : Metric) (n : ℕ) (point : ℕ → Point) (two : 2 ≤ n) (few : n ≤ 1024) (small : Size v.factor 4) (bounded : (k : ℕ) → k < n → Bounded (point k)) where
   abbrev ds : List Float
   ds = chords v.factor n point
 
@@ -110,7 +105,7 @@ module _ (v : Metric) (n : ℕ) (point : ℕ → Point) (two : 2 ≤ n) (few : n
     unfolding chords
     steps k h =
         let is : at ds k ≡ distance v.factor (point (k + 1)) (point k) = list_of-at (n - 1) (λ k. distance v.factor (point (k + 1)) (point k)) k nan h in
-        let step = chord-step v.factor (point (k + 1)) (point k) small (near (k + 1) (omega arith)) (near k (omega arith)) (subst (λ (x : Float). le x confusion ≡ false) is (apart k h)) in
+        let step = chord-step v.factor (point (k + 1)) (point k) small (bounded (k + 1) (omega arith)) (bounded k (omega arith)) (subst (λ (x : Float). le x confusion ≡ false) is (apart k h)) in
         spacing-step v.spacing (at ds k) (subst Step (sym is) step)
 
     abbrev W : ℕ → ℕ

@@ -18,6 +18,7 @@ use Rattle.fitting.specs.Within.{Candidate, table_on, fit_on, Refining, going, f
 abbrev pub next_knots : Direction → Float → List Float → Candidate → Option (List Float)
 next_knots d t flat f = refined_knots d.params (table_on d flat).firsts (d.deviations f.distances) (largest f.distances) t d.degree flat
 
+-- a fit within the tolerance, on knots that have P
 pub record Refined (d : Direction) (t : Float) (P : List Float → Type 0) (f : Candidate) : Type 0 where
   pub flat : List Float
   pub has : P flat

@@ -5,12 +5,12 @@ use mathlib.Core.Path.{◌≡◌, refl, sym, ◌∙◌, ap, subst}
 use mathlib.Core.Bool.{true, true≢false}
 use mathlib.Core.List.{List}
 use mathlib.Core.Option.{Option, none, some}
-use Prim.Native.Nat.{ℕ, ◌+◌, ◌-◌, ◌<◌, ◌≤◌}
+use Prim.Native.Nat.{ℕ, ◌-◌, ◌<◌, ◌≤◌}
 use native.Mathlib.Omega.{arith}
 use lib.ListN.{length}
 use lib.Ieee.{Float, le}
-use Rattle.places.proofs.PlaceLaws.{length-list_of}
-use Rattle.knots.specs.Knots.{clamped_knots, averaged_knot, averaged_knots, spread_knot, approximation_knots}
+use Rattle.knots.specs.Knots.{averaged_knot, averaged_knots, spread_knot, approximation_knots}
+use Rattle.knots.proofs.KnotLaws.{length_clamped}
 use Rattle.tables.specs.BasisTable.{BasisTable}
 use Rattle.tables.specs.Deviations.{largest_within}
 use Rattle.tables.specs.Directions.{Direction, ladder, grid_rows, grid_columns}
@@ -66,10 +66,6 @@ pub record IsSpread (d : Direction) (t : Float) (c : ℕ) (f : Candidate) : Type
 -- pole counts
 abbrev pub poles_of : ℕ → Marked → ℕ
 poles_of degree a = pole_count degree (unmarked a).flat
-
-pub length_clamped : (m p : ℕ) (inner : ℕ → Float) → length (clamped_knots m p inner) ≡ m + p + 1
-unfolding clamped_knots
-length_clamped m p inner = length-list_of (m + p + 1) _
 
 pub poles-spread : (params : List Float) (c p : ℕ) → pole_count p (approximation_knots params c p) ≡ c
 unfolding approximation_knots

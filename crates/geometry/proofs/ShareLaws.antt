@@ -24,6 +24,7 @@ use Rattle.geometry.proofs.RoundingLaws.{closest-half, before}
 use Rattle.geometry.proofs.SizeLaws.{sum-exact}
 use Rattle.geometry.proofs.UnitLaws.{units_pos}
 
+-- a double from 0 to 1 without a minus sign
 pub record Share (x : Float) : Type 0 where
   pub held : T (fits binary64 x)
   pub exact : Exact x (in_units x)

@@ -33,10 +33,11 @@ use Rattle.knots.proofs.ParameterLaws.{sum_to, sum-none, sum_more}
 
 -- ---- the square of a chord
 
-abbrev pub Near : Point → Type 0
-Near p = Size p.x (2 ^ 20) × Size p.y (2 ^ 20) × Size p.z (2 ^ 20)
+-- each coordinate at most 2 ^ 20 in size
+abbrev pub Bounded : Point → Type 0
+Bounded p = Size p.x (2 ^ 20) × Size p.y (2 ^ 20) × Size p.z (2 ^ 20)
 
-squares : (f : Float) (p q : Point) → Size f 4 → Near p → Near q → (g : ℕ) × Exact (squared_distance f p q) g × (g ≤ 2 ^ 48 * units_in_one)
+squares : (f : Float) (p q : Point) → Size f 4 → Bounded p → Bounded q → (g : ℕ) × Exact (squared_distance f p q) g × (g ≤ 2 ^ 48 * units_in_one)
 unfolding squared_distance
 squares f p q s h k =
     let across = size-mul (q.x ⊖ p.x) f (2 ^ 21) 4 (size-sub q.x p.x (2 ^ 20) (2 ^ 20) k.0 h.0 (lit≤ tt)) s (lit≤ tt) in
@@ -79,7 +80,7 @@ beyond x n e = test (above-le confusion x (subst (λ (b : Bool). T (not b)) (sym
     number = refl
 
 -- the chord between two points that are not confused
-pub chord-step : (f : Float) (p q : Point) → Size f 4 → Near p → Near q → le (distance f p q) confusion ≡ false → Step (distance f p q)
+pub chord-step : (f : Float) (p q : Point) → Size f 4 → Bounded p → Bounded q → le (distance f p q) confusion ≡ false → Step (distance f p q)
 unfolding sqrt_of of_bits
 chord-step f p q small h k e = go (eq-zero-or-pos s.0)
   where

@@ -6,13 +6,12 @@ use mathlib.Core.Option.{Option, none, some}
 use Prim.Native.Nat.{ℕ, ◌+◌, ◌-◌, ◌*◌, ◌<◌, ◌≤◌}
 use native.Mathlib.Omega.{arith}
 use lib.ListN.{length, take, drop}
-use lib.Seq.{ext_get_or}
 use lib.Ieee.{Float, nan}
 use Rattle.places.specs.Loops.{Outcome, outcome}
-use Rattle.places.specs.Places.{list_of, joined, laid, all_below}
+use Rattle.places.specs.Places.{joined, laid, all_below}
 use Rattle.places.specs.Regions.{part}
 use Rattle.places.proofs.RegionLaws.{length_part}
-use Rattle.places.proofs.PlaceLaws.{length-list_of, list_of-at, length-joined, part-laid, laid_copy}
+use Rattle.places.proofs.PlaceLaws.{list_of_all, length-joined, part-laid, laid_copy}
 use Rattle.geometry.specs.declared.Point.{Point}
 use Rattle.geometry.specs.Doubles.{at, largest, is_finite}
 use Rattle.cholesky.specs.Cholesky.{substitute_symmetric_band}
@@ -105,13 +104,8 @@ pub spread_from : (d : Direction) (c : ℕ) (f : Candidate) → c < length d.par
 spread_from d c f h e = spread-fit (Sized d) d c (spread_sized d c (omega arith)) f e
 
 -- ---- what stands in a slice is what was handed out
-list_is : (xs : List Float) → list_of (length xs) (at xs) ≡ xs
-list_is xs =
-    let l = length-list_of (length xs) (at xs) in
-    ext_get_or nan (list_of (length xs) (at xs)) xs l (λ i h. list_of-at (length xs) (at xs) i nan (omega arith))
-
 pub taken : (xs ys : List Float) → length xs ≤ length ys → take (length xs) (laid 0 (length xs) (at xs) ys) ≡ xs
-taken xs ys h = part-laid 0 (length xs) (at xs) ys nan (omega arith) ∙ list_is xs
+taken xs ys h = part-laid 0 (length xs) (at xs) ys nan (omega arith) ∙ list_of_all (length xs) xs nan refl
 
 -- ---- copies of parts
 

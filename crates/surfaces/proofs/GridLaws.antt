@@ -27,7 +27,8 @@ use Rattle.fitting.specs.declared.Mark.TheVariants.{Refined, Spread}
 use Rattle.fitting.specs.Within.{Candidate, Marked, refined, spread, interpolated, pole_count, candidate, interpolate, fit_with_refined_knots, fewer_or, fit_within_fewest, passes_on_spread}
 use Rattle.fitting.specs.Marks.{unmarked, fit_of}
 use Rattle.fitting.specs.Tolerance.{NoneAbove, Fails}
-use Rattle.fitting.proofs.ToleranceLaws.{Lawful, rows_lawful, columns_lawful, search_cases, spread-flat, poles-spread, length_clamped, within-fewest-kept}
+use Rattle.knots.proofs.KnotLaws.{length_clamped}
+use Rattle.fitting.proofs.ToleranceLaws.{Lawful, rows_lawful, columns_lawful, search_cases, spread-flat, poles-spread, within-fewest-kept}
 use Rattle.making.proofs.HandedLaws.{Sized, From, taken, spread_from, refined_from, alone_cases, refined_mark, spread_mark}
 use Rattle.grids.specs.declared.GridFit.{GridFit}
 use Rattle.grids.specs.declared.GridAnswer.{GridAnswer}

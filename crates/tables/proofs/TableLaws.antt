@@ -188,12 +188,15 @@ work-fits {from} {end} {d} {params} {count} {values} {w₀} {work} {ix₀} {ix} 
     (fits.0, omega (arith, fits.1, n))
 
 -- a row's values are the basis functions on the span that its search finds
+value_is : (flat : List Float) (d : ℕ) (params : List Float) (k : ℕ) → k < length params → (a : ℕ) → a < d + 1 → value (basis_table flat d params) k a ≡ at (row_at flat d params k) a
+unfolding basis_table
+value_is flat d params k h a l = joined_at (length params) (d + 1) (row_at flat d params) nan (λ j _. length-basis_at flat d (span_at flat d params j) (at params j)) k a h l
+
 pub row_values : (flat : List Float) (d : ℕ) (params : List Float) (k : ℕ) → k < length params → list_of (d + 1) (value (basis_table flat d params) k) ≡ row_at flat d params k
 unfolding basis_table
 row_values flat d params k h =
-    let row : ℕ → List Float = row_at flat d params in
-    let long : (j : ℕ) → length (row j) ≡ d + 1 = λ j. length-basis_at flat d (span_at flat d params j) (at params j) in
-    list_of-same (d + 1) _ (at (row k)) (λ a l. joined_at (length params) (d + 1) row nan (λ j _. long j) k a h l) ∙ list_of_all (d + 1) (row k) nan (long k)
+    let row = row_at flat d params k in
+    list_of-same (d + 1) _ (at row) (value_is flat d params k h) ∙ list_of_all (d + 1) row nan (length-basis_at flat d (span_at flat d params k) (at params k))
 
 -- a row for each parameter
 pub length_rows : (flat : List Float) (d : ℕ) (params : List Float) → length (basis_table flat d params).firsts ≡ length params
@@ -208,12 +211,12 @@ module _ (flat : List Float) (falls : NeverFalls flat) (d : ℕ) (long : 2 * d +
   point_read poles k h end =
       let u = at params k in
       let s = span_at flat d params k in
-      let row = row_at flat d params in
+      let row = row_at flat d params k in
       let inside : clamp u (first_parameter flat d) (last_parameter flat d) ≡ u = clamp-inside u _ _ (p.from k h) (p.to k h) in
       let same : first (basis_table flat d params) k ≡ s - d = list_of-at (length params) (first_at flat d params) k 0 h in
       rw (inside, ← spans_agree flat falls d long params p k h end)
-      (weighted-same (d + 1) (at (row k)) (value (basis_table flat d params) k) (λ a. point_at poles (s - d + a)) (λ a. point_at poles (0 + first (basis_table flat d params) k + a))
-      (λ a l. sym (joined_at (length params) (d + 1) row nan (λ j i. length-basis_at flat d (span_at flat d params j) (at params j)) k a h l))
+      (weighted-same (d + 1) (at row) (value (basis_table flat d params) k) (λ a. point_at poles (s - d + a)) (λ a. point_at poles (0 + first (basis_table flat d params) k + a))
+      (λ a l. sym (value_is flat d params k h a l))
       (λ a l. let e : s - d + a ≡ 0 + first (basis_table flat d params) k + a = omega arith in ap (point_at poles) e))
 
 -- each row's poles are among those that the flat knots have
