@@ -1,36 +1,36 @@
 -- Checks one after the other, and what a curve that passes the reader's has. Assumes nothing.
-use mathlib.Core.Path.{◌≡◌, refl, ◌∙◌, ap}
+use mathlib.Core.Path.{◌≡◌, refl, sym, ◌∙◌, ap}
+use Rattle.std.specs.List.{zip}
+use Rattle.std.proofs.lemmas.Slice.Zip.{length-zip, get_or-zip}
 use mathlib.Core.Bool.{Bool, true, false, not, ◌||◌}
 use mathlib.Core.List.{List}
 use Prim.Native.Nat.{ℕ, ◌+◌, ◌-◌, ◌*◌, ◌/◌, ◌≤◌, ◌<◌}
 use native.Mathlib.Omega.{arith}
 use borrow.Author.Tests.{ltb-false, eqb-true, not-false}
 use lib.Dec.{T, ltb, eqb, lit<}
-use lib.Ieee.{Float, le, is_nan}
-use lib.ListN.{length}
+use lib.Ieee.{Float, nan, le, is_nan}
+use lib.ListN.{length, drop, get_or, length-drop}
 use Rattle.places.proofs.PlaceLaws.{some_false, or_false}
+use Rattle.places.proofs.ListLaws.{any_place}
+use native.Mathlib.Nat.{add_comm}
+use lib.Seq.{get_or-drop}
 use Rattle.geometry.specs.declared.Point.{Point}
 use Rattle.geometry.specs.Doubles.{at, is_finite}
 use Rattle.geometry.proofs.DoubleLaws.{finite_number}
 use Rattle.bspline.specs.declared.Refusal.{Refusal}
 use Rattle.bspline.specs.declared.Refusal.TheVariants.{TooFewPoints, InvalidDegree, DegreeTooHigh, TooManyPoles, ConfusedPoints, PoleCountMismatch, NotTriples, TooLarge, BufferTooShort, CoordinateOutOfRange, TooFewKnots, KnotsNotIncreasing, MultiplicityTooLarge, NotReadable, InvalidTarget, FactorOutOfRange, WeightCountMismatch, NonPositiveWeight, NotConvertible, StepsNotRising, DifferenceTooLarge}
-use Rattle.bspline.specs.declared.Verdict.{Verdict}
-use Rattle.bspline.specs.declared.Verdict.TheVariants.{Pass, Stop}
-use Rattle.bspline.specs.declared.Reading.{Reading}
-use Rattle.bspline.specs.declared.Reading.TheVariants.{Refused}
-use Rattle.bspline.specs.Refusals.{number_of, stop_if, ◌next◌}
+use Rattle.std.specs.Prelude.{Result, Ok, Err}
+use Rattle.bspline.specs.Refusals.{Verdict, number_of, passes, stop_if, ◌next◌}
 use Rattle.bspline.specs.Spans.{NeverFalls, first_parameter, last_parameter}
-use Rattle.bspline.specs.Reader.{multiplicity, not_increasing, inner_too_large, too_large, no_multiplicity, not_finite, not_readable, flat_knots, sizes_verdict, knots_verdict, reader_verdict, reading_of, reading_number, verdict_number, curve_point, Sized, Counted, Reads}
+use Rattle.bspline.specs.Reader.{multiplicity, not_increasing, inner_too_large, too_large, no_multiplicity, not_finite, not_readable, flat_knots, sizes_verdict, knots_verdict, reader_verdict, reading_of, number_in, curve_point, Sized, Counted, Reads}
 use Rattle.bspline.proofs.ReaderLaws.{length-flat, flat_never_falls}
 
 -- both pass where the two pass together
-pub both_pass : (v w : Verdict) → (v next w) ≡ Pass → (v ≡ Pass) × (w ≡ Pass)
-unfolding ◌next◌
-both_pass Pass w e = (refl, e)
-both_pass (Stop c) w e = let z : ◌≡◌ {A = ℕ} 0 1 = cc in absurd (omega arith)
+pub both_pass : (v w : Verdict) → (v next w) ≡ passes → (v ≡ passes) × (w ≡ passes)
+both_pass (Ok p) w e = (refl, e)
+both_pass (Err c) w e = let z : ◌≡◌ {A = ℕ} 0 1 = cc in absurd (omega arith)
 
-pub test_fails : (b : Bool) (c : Refusal) → stop_if b c ≡ Pass → b ≡ false
-unfolding stop_if
+pub test_fails : (b : Bool) (c : Refusal) → stop_if b c ≡ passes → b ≡ false
 test_fails true c e = let z : ◌≡◌ {A = ℕ} 0 1 = cc in absurd (omega arith)
 test_fails false c e = refl
 
@@ -60,30 +60,29 @@ numbered DifferenceTooLarge = lit< tt
 
 -- ---- the answer of a check, and of those after it
 
-pub stopped : (v w : Verdict) (c : Refusal) (q : Point) → v ≡ Stop c → Refused c ≡ reading_of (v next w) q
-unfolding ◌next◌ reading_of
-stopped v w c q e = rw e
+pub refused : {A : Type 0} → (v : Verdict) (c : Refusal) (r : Result A Refusal) → v ≡ Err c → Err c ≡ (v next r)
+refused v c r e = rw e
 
-pub passed : (v w : Verdict) (q : Point) (r : Reading) → v ≡ Pass → r ≡ reading_of w q → r ≡ reading_of (v next w) q
-unfolding ◌next◌
-passed v w q r e f = rw e f
+pub passed : {A : Type 0} → (v : Verdict) (r : Result A Refusal) → v ≡ passes → r ≡ (v next r)
+passed v r e = rw e
 
-reading_number-reading_of : (v : Verdict) (q : Point) → reading_number (reading_of v q) ≡ verdict_number v
-unfolding reading_of reading_number verdict_number
-reading_number-reading_of Pass q = refl
-reading_number-reading_of (Stop c) q = refl
+-- what answers where the checks pass changes no number
+number-next : (v : Verdict) (q : Point) → number_in (reading_of v q) ≡ number_in v
+unfolding number_in
+number-next (Ok p) q = refl
+number-next (Err c) q = refl
 
 -- the contract from its answer
-pub reads : (poles : List Float) (d : ℕ) (knots : List Float) (mults : List ℕ) (u : Float) (r : Reading)
+pub reads : (poles : List Float) (d : ℕ) (knots : List Float) (mults : List ℕ) (u : Float) (r : Result Point Refusal)
     → r ≡ reading_of (reader_verdict poles d knots mults u) (curve_point (flat_knots knots mults) d poles u) → Reads poles d knots mults u r
 reads poles d knots mults u r e = record {
   answer = e;
-  number = ap reading_number e ∙ reading_number-reading_of (reader_verdict poles d knots mults u) (curve_point (flat_knots knots mults) d poles u);
+  number = ap number_in e ∙ number-next (reader_verdict poles d knots mults u) (curve_point (flat_knots knots mults) d poles u);
 }
 
 -- ---- what the checks give
 
-pub sizes_pass : (places d knots mults : ℕ) → sizes_verdict places d knots mults ≡ Pass → Sized places d knots mults
+pub sizes_pass : (places d knots mults : ℕ) → sizes_verdict places d knots mults ≡ passes → Sized places d knots mults
 unfolding sizes_verdict
 sizes_pass places d knots mults e =
     let e₁ = both_pass _ _ e in
@@ -102,7 +101,7 @@ sizes_pass places d knots mults e =
       pairs = eqb-true _ _ (not-false _ (or_false (ltb mults 2) (not (eqb knots mults)) few.1).1);
     }
 
-pub knots_pass : (n d : ℕ) (knots : List Float) (mults : List ℕ) → knots_verdict n d knots mults ≡ Pass → Counted n d knots mults
+pub knots_pass : (n d : ℕ) (knots : List Float) (mults : List ℕ) → knots_verdict n d knots mults ≡ passes → Counted n d knots mults
 unfolding knots_verdict
 knots_pass n d knots mults e =
     let e₁ = both_pass _ _ e in
@@ -136,15 +135,23 @@ enough n d knots mults u e = ltb-false n (d + 1) (readable n d knots mults u e).
 
 -- no knot is a NaN
 pub numbers : (n d : ℕ) (knots : List Float) (mults : List ℕ) (u : Float) → not_readable n d knots mults u ≡ false → (k : ℕ) → k < length knots → T (not (is_nan (at knots k)))
-unfolding not_finite
 numbers n d knots mults u e k l =
-    finite_number (at knots k) (not-false _ (some_false (length knots) (λ j. not (is_finite (at knots j))) (readable n d knots mults u e).finite k l))
+    let none = sym (any_place (λ x. not (is_finite x)) nan knots) ∙ (readable n d knots mults u e).finite in
+    finite_number (at knots k) (not-false _ (some_false (length knots) (λ j. not (is_finite (at knots j))) none k l))
+
+-- each knot is above the one before it
+pub rises : (knots : List Float) → not_increasing knots ≡ false → (k : ℕ) → k + 1 < length knots → le (at knots (k + 1)) (at knots k) ≡ false
+rises knots e k l =
+    let pairs = zip knots (drop 1 knots) in
+    let many : length pairs ≡ length knots - 1 = omega (arith, length-zip knots (drop 1 knots), length-drop 1 knots) in
+    let pair = get_or-zip knots (drop 1 knots) k (nan, nan) (omega arith) (omega (arith, length-drop 1 knots)) in
+    let none = sym (any_place (λ (a, b). le b a) (nan, nan) pairs) ∙ e in
+    let above = some_false (length pairs) (λ j. le (get_or pairs j (nan, nan)).1 (get_or pairs j (nan, nan)).0) none k (omega (arith, many)) in
+    ap (λ (x : Float). le x (at knots k)) (ap (λ (i : ℕ). at knots i) (add_comm k 1) ∙ sym (get_or-drop 1 knots k nan))
+    ∙ ap (λ (p : Float × Float). le p.1 p.0) (sym pair) ∙ above
 
 pub never_falls : (n d : ℕ) (knots : List Float) (mults : List ℕ) (u : Float) → Counted n d knots mults → 1 ≤ length knots → not_readable n d knots mults u ≡ false → NeverFalls (flat_knots knots mults)
-unfolding not_increasing
-never_falls n d knots mults u counted h e =
-    flat_never_falls knots mults (numbers n d knots mults u e)
-    (λ k l. some_false (length knots - 1) (λ j. le (at knots (j + 1)) (at knots j)) counted.rising k (omega arith)) h
+never_falls n d knots mults u counted h e = flat_never_falls knots mults (numbers n d knots mults u e) (rises knots counted.rising) h
 
 -- ---- what a curve has that the reader takes
 
@@ -159,7 +166,7 @@ pub record Taken (poles : List Float) (d : ℕ) (knots : List Float) (mults : Li
   pub first : multiplicity mults 0 ≤ d + 1
   pub last : multiplicity mults (length mults - 1) ≤ d + 1
 
-ends_pass : (n d : ℕ) (knots : List Float) (mults : List ℕ) → knots_verdict n d knots mults ≡ Pass → (multiplicity mults 0 ≤ d + 1) × (multiplicity mults (length mults - 1) ≤ d + 1)
+ends_pass : (n d : ℕ) (knots : List Float) (mults : List ℕ) → knots_verdict n d knots mults ≡ passes → (multiplicity mults 0 ≤ d + 1) × (multiplicity mults (length mults - 1) ≤ d + 1)
 unfolding knots_verdict too_large
 ends_pass n d knots mults e =
     let e₁ = both_pass _ _ e in
@@ -168,37 +175,37 @@ ends_pass n d knots mults e =
     let b = or_false (ltb (d + 1) (multiplicity mults (length mults - 1))) (inner_too_large d mults) a.1 in
     (ltb-false _ _ a.0, ltb-false _ _ b.0)
 
-module _ (poles : List Float) (d : ℕ) (knots : List Float) (mults : List ℕ) (u : Float) (e : reader_verdict poles d knots mults u ≡ Pass) where
+module _ (poles : List Float) (d : ℕ) (knots : List Float) (mults : List ℕ) (u : Float) (e : reader_verdict poles d knots mults u ≡ passes) where
   abbrev n : ℕ
   n = length poles / 3
 
-  passes : (sizes_verdict (length poles) d (length knots) (length mults) ≡ Pass) × ((knots_verdict n d knots mults ≡ Pass) × (not_readable n d knots mults u ≡ false))
+  each_passes : (sizes_verdict (length poles) d (length knots) (length mults) ≡ passes) × ((knots_verdict n d knots mults ≡ passes) × (not_readable n d knots mults u ≡ false))
   unfolding reader_verdict
-  passes =
+  each_passes =
       let e₁ = both_pass _ _ e in
       let e₂ = both_pass _ _ e₁.1 in
       (e₁.0, (e₂.0, test_fails _ _ e₂.1))
 
   pub taken : Taken poles d knots mults u
   taken =
-      let sized = sizes_pass (length poles) d (length knots) (length mults) passes.0 in
-      let counted = knots_pass n d knots mults passes.1.0 in
-      let ends = ends_pass n d knots mults passes.1.0 in
+      let sized = sizes_pass (length poles) d (length knots) (length mults) each_passes.0 in
+      let counted = knots_pass n d knots mults each_passes.1.0 in
+      let ends = ends_pass n d knots mults each_passes.1.0 in
       let count = flat-count n d knots mults sized.pairs counted in
       record {
         sized = sized;
         counted = counted;
-        readable = passes.1.1;
+        readable = each_passes.1.1;
         many = count;
-        long = omega (arith, count, enough n d knots mults u passes.1.1);
-        falls = never_falls n d knots mults u counted (omega (arith, sized.two)) passes.1.1;
+        long = omega (arith, count, enough n d knots mults u each_passes.1.1);
+        falls = never_falls n d knots mults u counted (omega (arith, sized.two)) each_passes.1.1;
         first = ends.0;
         last = ends.1;
       }
 
   -- whether it is taken does not hang on the parameter, unless that is a NaN
-  pub taken_there : (w : Float) → is_nan w ≡ false → reader_verdict poles d knots mults w ≡ Pass
-  unfolding reader_verdict ◌next◌ stop_if not_readable
+  pub taken_there : (w : Float) → is_nan w ≡ false → reader_verdict poles d knots mults w ≡ passes
+  unfolding reader_verdict not_readable
   taken_there w f =
-      let r = readable n d knots mults u passes.1.1 in
-      rw (passes.0, passes.1.0, r.counted, r.finite, r.poles, r.range, f)
+      let r = readable n d knots mults u each_passes.1.1 in
+      rw (each_passes.0, each_passes.1.0, r.counted, r.finite, r.poles, r.range, f)

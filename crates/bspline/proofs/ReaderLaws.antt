@@ -5,13 +5,14 @@ use native.Mathlib.Numerals.{add-one}
 use mathlib.Core.Path.{◌≡◌, refl, sym, ap, ◌∙◌, subst}
 use mathlib.Core.List.{List, [], ◌++◌}
 use lib.ListN.{length, drop, replicate, drop_of_length-le, length-append, length-replicate, get_or-replicate, get_or-append}
-use lib.Seq.{drop-cons, get_or-append-add}
+use lib.Seq.{get_or-append-add}
 use lib.Dec.{T}
 use mathlib.Core.Bool.{true, false, not}
 use mathlib.Core.Logic.{⊎_elim}
 use native.Mathlib.Nat.{not-suc-le-zero}
 use lib.Ieee.{Float, nan, le, is_nan}
 use Rattle.places.specs.Places.{joined, laid}
+use Rattle.std.proofs.lemmas.List.Sums.{sum_by-drop_more}
 use Rattle.places.proofs.PlaceLaws.{joined-more, laid_run, le-or-lt}
 use Rattle.geometry.specs.Doubles.{at}
 use Rattle.geometry.proofs.FloatOrder.{holds, le_self, le_transitive, above-le}
@@ -19,11 +20,9 @@ use Rattle.bspline.specs.Spans.{NeverFalls}
 use Rattle.bspline.specs.Reader.{multiplicity, sum_of, flat_knots}
 
 pub sum_step : (mults : List ℕ) (k : ℕ) → k < length mults → sum_of (drop k mults) ≡ multiplicity mults k + sum_of (drop (k + 1) mults)
-unfolding sum_of
-sum_step mults k h = rw (add-one, drop-cons mults k 0 h)
+sum_step mults k h = sum_by-drop_more (λ (m : ℕ). m) mults k 0 h
 
 pub sum_end : (mults : List ℕ) (k : ℕ) → length mults ≤ k → sum_of (drop k mults) ≡ 0
-unfolding sum_of
 sum_end mults k h = rw (drop_of_length-le mults h)
 
 -- ---- the flat knots, run by run

@@ -1,16 +1,15 @@
 -- The reader: a curve's distinct knots, multiplicities and poles, read at a parameter (`KnotVector::new`, `KnotVector::basis`). Definitions only.
-use Rattle.std.specs.Prelude.{ℕ, ◌+◌, ◌-◌, ◌/◌, ◌%◌, ◌≤◌, ◌≡◌, Bool, false, not, ◌||◌, List, [], ◌∷◌, eqb, ltb, length, get_or, replicate, Float}
+use Rattle.std.specs.Prelude.{Result, Ok, Err, ℕ, ◌+◌, ◌-◌, ◌/◌, ◌%◌, ◌≤◌, ◌≡◌, Bool, false, not, ◌||◌, List, eqb, ltb, length, drop, sum, get_or, replicate, Float}
 use Rattle.std.specs.Float.Ieee.{le, is_nan}
-use Rattle.places.specs.Places.{joined, some_below}
+use Rattle.std.specs.List.{list_any, zip}
+use Rattle.places.specs.Places.{joined}
+use Rattle.places.specs.Regions.{part}
 use Rattle.geometry.specs.declared.Point.{Point}
 use Rattle.geometry.specs.Doubles.{at, is_finite}
 use Rattle.geometry.specs.Points.{point_at, weighted}
+use Rattle.bspline.specs.declared.Refusal.{Refusal}
 use Rattle.bspline.specs.declared.Refusal.TheVariants.{InvalidDegree, PoleCountMismatch, NotTriples, TooLarge, TooFewKnots, KnotsNotIncreasing, MultiplicityTooLarge, NotReadable}
-use Rattle.bspline.specs.declared.Verdict.{Verdict}
-use Rattle.bspline.specs.declared.Verdict.TheVariants.{Pass, Stop}
-use Rattle.bspline.specs.declared.Reading.{Reading}
-use Rattle.bspline.specs.declared.Reading.TheVariants.{Read, Refused}
-use Rattle.bspline.specs.Refusals.{number_of, stop_if, ◌next◌}
+use Rattle.bspline.specs.Refusals.{Verdict, number_of, stop_if, ◌next◌}
 use Rattle.bspline.specs.Spans.{clamp, span_of, first_parameter, last_parameter}
 use Rattle.bspline.specs.Basis.{basis_at}
 
@@ -23,9 +22,8 @@ unfoldable pub flat_knots : List Float → List ℕ → List Float
 flat_knots knots mults = joined (length knots) (λ k. replicate (multiplicity mults k) (at knots k))
 
 -- the multiplicities added up
-unfoldable pub sum_of : List ℕ → ℕ
-sum_of [] = 0
-sum_of (m ∷ ms) = m + sum_of ms
+abbrev pub sum_of : List ℕ → ℕ
+sum_of mults = sum mults
 
 -- the curve's point at u: u is moved into the range, and the d + 1 basis functions on its span weight the poles from span - d on
 unfoldable pub curve_point : List Float → ℕ → List Float → Float → Point
@@ -36,12 +34,12 @@ curve_point flat d poles u =
     weighted (d + 1) (at v) (λ a. point_at poles (s - d + a))
 
 -- 13: some knot is not above its predecessor (a knot after or before NaN is not refused here)
-unfoldable pub not_increasing : List Float → Bool
-not_increasing knots = some_below (length knots - 1) (λ k. le (at knots (k + 1)) (at knots k))
+abbrev pub not_increasing : List Float → Bool
+not_increasing knots = list_any (λ (a, b). le b a) (zip knots (drop 1 knots))
 
 -- 14: an end's multiplicity is above degree + 1, or an inner one above the degree
-unfoldable pub inner_too_large : ℕ → List ℕ → Bool
-inner_too_large d mults = some_below (length mults - 2) (λ k. ltb d (multiplicity mults (k + 1)))
+abbrev pub inner_too_large : ℕ → List ℕ → Bool
+inner_too_large d mults = list_any (λ m. ltb d m) (part 1 (length mults - 1) mults)
 
 unfoldable pub too_large : ℕ → List ℕ → Bool
 too_large d mults = ltb (d + 1) (multiplicity mults 0) || (ltb (d + 1) (multiplicity mults (length mults - 1)) || inner_too_large d mults)
@@ -62,11 +60,11 @@ knots_verdict n d knots mults =
     next stop_if (not (eqb (sum_of mults) (n + d + 1))) PoleCountMismatch
 
 -- 15: a multiplicity is 0, a knot not finite, there are under degree + 1 poles, the range is empty, or the parameter is NaN
-unfoldable pub no_multiplicity : List ℕ → Bool
-no_multiplicity mults = some_below (length mults) (λ k. eqb (multiplicity mults k) 0)
+abbrev pub no_multiplicity : List ℕ → Bool
+no_multiplicity mults = list_any (λ m. eqb m 0) mults
 
-unfoldable pub not_finite : List Float → Bool
-not_finite knots = some_below (length knots) (λ k. not (is_finite (at knots k)))
+abbrev pub not_finite : List Float → Bool
+not_finite knots = list_any (λ x. not (is_finite x)) knots
 
 unfoldable pub not_readable : ℕ → ℕ → List Float → List ℕ → Float → Bool
 not_readable n d knots mults u =
@@ -84,18 +82,13 @@ reader_verdict poles d knots mults u =
     next stop_if (not_readable (length poles / 3) d knots mults u) NotReadable
 
 -- the answer
-unfoldable pub reading_of : Verdict → Point → Reading
-reading_of Pass q = Read q
-reading_of (Stop c) q = Refused c
+abbrev pub reading_of : Verdict → Point → Result Point Refusal
+reading_of v q = (v next Ok q)
 
--- document 01's number of a reading: 0 where it is a point
-unfoldable pub reading_number : Reading → ℕ
-reading_number (Read q) = 0
-reading_number (Refused c) = number_of c
-
-unfoldable pub verdict_number : Verdict → ℕ
-verdict_number Pass = 0
-verdict_number (Stop c) = number_of c
+-- document 01's number of a verdict or an answer: 0 where it is no refusal
+unfoldable pub number_in : {A : Type 0} → Result A Refusal → ℕ
+number_in (Ok x) = 0
+number_in (Err c) = number_of c
 
 -- what the checks up to 12 give, and those up to 6
 pub record Sized (places d knots mults : ℕ) : Type 0 where
@@ -112,6 +105,6 @@ pub record Counted (n d : ℕ) (knots : List Float) (mults : List ℕ) : Type 0 
   pub whole : sum_of mults ≡ n + d + 1
 
 -- The contract of `read`. Nothing is lent to be written.
-pub record Reads (poles : List Float) (degree : ℕ) (knots : List Float) (mults : List ℕ) (u : Float) (r : Reading) : Type 0 where
+pub record Reads (poles : List Float) (degree : ℕ) (knots : List Float) (mults : List ℕ) (u : Float) (r : Result Point Refusal) : Type 0 where
   pub answer : r ≡ reading_of (reader_verdict poles degree knots mults u) (curve_point (flat_knots knots mults) degree poles u)
-  pub number : reading_number r ≡ verdict_number (reader_verdict poles degree knots mults u)
+  pub number : number_in r ≡ number_in (reader_verdict poles degree knots mults u)

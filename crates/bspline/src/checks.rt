@@ -1,158 +1,121 @@
 // The reader's checks in document 01's order: `validate_direction`'s, and those that document 01 adds.
-ghost use Rattle.std.specs.Prelude.{◌≡◌, ◌+◌, ◌≤◌, length};
-ghost use Rattle.bspline.specs.Reader.{not_increasing, inner_too_large, too_large, no_multiplicity, not_finite, sum_of, sizes_verdict, knots_verdict, not_readable, flat_knots};
+#![tactic(auto, unfolding(crate::specs::Reader::sizes_verdict, crate::specs::Reader::knots_verdict, crate::specs::Reader::not_readable, crate::specs::Reader::too_large))]
 
-use crate::{Refusal, Verdict};
+ghost use Rattle.std.specs.Prelude.{◌≡◌, ◌+◌, ◌*◌, ◌/◌, ◌≤◌, length, sum, OnOk};
+ghost use Rattle.bspline.specs.Refusals.{stop_if};
+ghost use Rattle.bspline.specs.declared.Refusal.TheVariants.{NotReadable};
+ghost use Rattle.bspline.specs.Spans.{NeverFalls};
+ghost use Rattle.bspline.specs.Reader.{not_increasing, inner_too_large, too_large, no_multiplicity, not_finite, sizes_verdict, knots_verdict, not_readable, flat_knots, Sized, Counted};
+
+use crate::Refusal;
+use crate::curve::Curve;
 
 // Whether some knot is at or below its predecessor.
 fn not_increasing(knots: &[f64]) -> bool
     ensures { result ≡ not_increasing knots.now }
 {
-    let mut k = 0;
-    while k + 1 < knots.len() {
-        if knots[k + 1] <= knots[k] {
-            return true;
-        }
-        k += 1;
-    }
-    false
+    let later = knots.iter().skip(1);
+    knots.iter().zip(later).any(|(a, b)| b <= a)
 }
 
 // Whether some inner multiplicity is above the degree.
 fn inner_too_large(degree: usize, mults: &[u32]) -> bool
+    requires { 2 ≤ length mults.now }
     ensures { result ≡ inner_too_large degree mults.now }
 {
-    let mut k = 0;
-    while k + 2 < mults.len() {
-        let m = mults[k + 1] as usize;
-        if degree < m {
-            return true;
-        }
-        k += 1;
-    }
-    false
+    let last = mults.len() - 1;
+    mults[1..last].iter().any(|m| degree < *m as usize)
 }
 
 // Whether an end's multiplicity is above degree + 1, or an inner one above the degree.
 fn multiplicity_too_large(degree: usize, mults: &[u32]) -> bool
-    requires { (degree ≤ 25) × (1 ≤ length mults.now) }
+    requires { (degree ≤ 25) × (2 ≤ length mults.now) }
     ensures { result ≡ too_large degree mults.now }
 {
     let first = mults[0] as usize;
-    if degree + 1 < first {
-        return true;
-    }
     let last = mults[mults.len() - 1] as usize;
-    if degree + 1 < last {
-        return true;
-    }
-    inner_too_large(degree, mults)
+    degree + 1 < first || degree + 1 < last || inner_too_large(degree, mults)
 }
 
 // The multiplicities added up.
 fn sum_of(mults: &[u32]) -> usize
     requires { length mults.now ≤ 1050 }
-    ensures { result ≡ sum_of mults.now }
+    ensures { result ≡ sum mults.now }
 {
-    let mut sum: usize = 0;
-    for k in 0..mults.len() {
-        sum += mults[k] as usize;
-    }
-    sum
-}
-
-// 7, 8, 2, 12: by the number of the poles' places, the degree, and the numbers of knots and multiplicities.
-pub fn check_sizes(places: usize, degree: usize, knots: usize, mults: usize) -> Verdict
-    ensures { result ≡ sizes_verdict places degree knots mults }
-{
-    if places % 3 != 0 {
-        return Verdict::Stop(Refusal::NotTriples);
-    }
-    if 1024 < places / 3 {
-        return Verdict::Stop(Refusal::TooLarge);
-    }
-    if 1050 < knots {
-        return Verdict::Stop(Refusal::TooLarge);
-    }
-    if degree < 1 {
-        return Verdict::Stop(Refusal::InvalidDegree);
-    }
-    if 25 < degree {
-        return Verdict::Stop(Refusal::InvalidDegree);
-    }
-    if knots < 2 {
-        return Verdict::Stop(Refusal::TooFewKnots);
-    }
-    if knots != mults {
-        return Verdict::Stop(Refusal::TooFewKnots);
-    }
-    Verdict::Pass
-}
-
-// 13, 14, 6, of n poles. With 2 and 12 before them these are the Rust's `validate_direction`.
-pub fn check_knots(n: usize, degree: usize, knots: &[f64], mults: &[u32]) -> Verdict
-    requires { (n ≤ 1024) × (degree ≤ 25) × (1 ≤ length mults.now) × (length mults.now ≤ 1050) }
-    ensures { result ≡ knots_verdict n degree knots.now mults.now }
-{
-    if not_increasing(knots) {
-        return Verdict::Stop(Refusal::KnotsNotIncreasing);
-    }
-    if multiplicity_too_large(degree, mults) {
-        return Verdict::Stop(Refusal::MultiplicityTooLarge);
-    }
-    if sum_of(mults) != n + degree + 1 {
-        return Verdict::Stop(Refusal::PoleCountMismatch);
-    }
-    Verdict::Pass
+    mults.iter().map(|m| *m as usize).sum()
 }
 
 // Whether some multiplicity is 0.
 fn no_multiplicity(mults: &[u32]) -> bool
     ensures { result ≡ no_multiplicity mults.now }
 {
-    for k in 0..mults.len() {
-        if mults[k] == 0 {
-            return true;
-        }
-    }
-    false
+    mults.iter().any(|m| *m == 0)
 }
 
 // Whether some knot is NaN or infinite.
 fn not_finite(knots: &[f64]) -> bool
     ensures { result ≡ not_finite knots.now }
 {
-    for k in 0..knots.len() {
-        if !geometry::doubles::is_finite(knots[k]) {
-            return true;
-        }
-    }
-    false
+    knots.iter().any(|x| !geometry::doubles::is_finite(*x))
 }
 
-// 15, of n poles and the curve's flat knots.
-pub fn not_readable(
-    n: usize,
-    degree: usize,
-    knots: &[f64],
-    mults: &[u32],
-    flat: &[f64],
-    u: f64,
-) -> bool
-    requires { (degree ≤ 25) × (length flat.now ≡ n + degree + 1) × (flat.now ≡ flat_knots knots.now mults.now) }
-    ensures { result ≡ not_readable n degree knots.now mults.now u }
-{
-    if no_multiplicity(mults) {
-        return true;
+impl<'a> Curve<'a> {
+    // 7, 8, 2, 12: by the number of the poles' places, the degree, and the numbers of knots and multiplicities.
+    pub fn check_sizes(self) -> Result<(), Refusal>
+        ensures verdict { result ≡ sizes_verdict (length self.entry.poles.now) self.entry.degree (length self.entry.knots.now) (length self.entry.mults.now) }
+        ensures sized { OnOk result (Sized (length self.entry.poles.now) self.entry.degree (length self.entry.knots.now) (length self.entry.mults.now)) }
+    {
+        if self.poles.len() % 3 != 0 {
+            return Err(Refusal::NotTriples);
+        }
+        if 1024 < self.poles.len() / 3 || 1050 < self.knots.len() {
+            return Err(Refusal::TooLarge);
+        }
+        if self.degree < 1 || 25 < self.degree {
+            return Err(Refusal::InvalidDegree);
+        }
+        if self.knots.len() < 2 || self.knots.len() != self.mults.len() {
+            return Err(Refusal::TooFewKnots);
+        }
+        Ok(())
     }
-    if not_finite(knots) {
-        return true;
+
+    // 13, 14, 6. With 2 and 12 before them these are the Rust's `validate_direction`.
+    pub fn check_knots(self) -> Result<(), Refusal>
+        requires { Sized (length self.poles.now) self.degree (length self.knots.now) (length self.mults.now) }
+        ensures verdict { result ≡ knots_verdict (length self.entry.poles.now / 3) self.entry.degree self.entry.knots.now self.entry.mults.now }
+        ensures counted { OnOk result (Counted (length self.entry.poles.now / 3) self.entry.degree self.entry.knots.now self.entry.mults.now) }
+    {
+        if not_increasing(self.knots) {
+            return Err(Refusal::KnotsNotIncreasing);
+        }
+        if multiplicity_too_large(self.degree, self.mults) {
+            return Err(Refusal::MultiplicityTooLarge);
+        }
+        if sum_of(self.mults) != self.poles.len() / 3 + self.degree + 1 {
+            return Err(Refusal::PoleCountMismatch);
+        }
+        Ok(())
     }
-    if n < degree + 1 {
-        return true;
+
+    // 15, with the curve's flat knots.
+    pub fn check_readable(self, flat: &[f64], u: f64) -> Result<(), Refusal>
+        requires sized { Sized (length self.poles.now) self.degree (length self.knots.now) (length self.mults.now) }
+        requires counted { Counted (length self.poles.now / 3) self.degree self.knots.now self.mults.now }
+        requires many { length flat.now ≡ length self.poles.now / 3 + self.degree + 1 }
+        requires flat { flat.now ≡ flat_knots self.knots.now self.mults.now }
+        ensures readable { OnOk result ((2 * self.entry.degree + 2 ≤ length flat.now) × NeverFalls flat.now) }
+        ensures verdict { result ≡ stop_if (not_readable (length self.entry.poles.now / 3) self.entry.degree self.entry.knots.now self.entry.mults.now u) NotReadable }
+    {
+        if no_multiplicity(self.mults) || not_finite(self.knots) {
+            return Err(Refusal::NotReadable);
+        }
+        if self.poles.len() / 3 < self.degree + 1 {
+            return Err(Refusal::NotReadable);
+        }
+        if flat[flat.len() - 1 - self.degree] <= flat[self.degree] || u.is_nan() {
+            return Err(Refusal::NotReadable);
+        }
+        Ok(())
     }
-    if flat[flat.len() - 1 - degree] <= flat[degree] {
-        return true;
-    }
-    u != u
 }

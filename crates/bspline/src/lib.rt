@@ -3,39 +3,38 @@
 
 pub mod basis;
 pub mod checks;
+pub mod curve;
 pub mod reader;
 pub mod spans;
 
 ghost use Rattle.std.specs.Prelude.{◌≡◌};
 ghost use Rattle.bspline.specs.Refusals.{number_of, factor_verdict};
 
-use geometry::Point;
-
-// Why a call is refused. The first six and TooFewKnots, KnotsNotIncreasing and MultiplicityTooLarge have the Rust's names; documents 01 and 02 add the others.
-// Their number for each is `number_of` in specs/Refusals.antt.
-#[derive(Clone, Copy)]
+// Why a call is refused, with the documents' number. The first six and TooFewKnots, KnotsNotIncreasing and MultiplicityTooLarge have the Rust's names; documents 01 and 02
+// add the others. 11 is the card program's alone.
+#[derive(Clone, Copy, Debug, PartialEq, Eq)]
 pub enum Refusal {
-    TooFewPoints,
-    InvalidDegree,
-    DegreeTooHigh,
-    TooManyPoles,
-    ConfusedPoints,
-    PoleCountMismatch,
-    NotTriples,
-    TooLarge,
-    BufferTooShort,
-    CoordinateOutOfRange,
-    TooFewKnots,
-    KnotsNotIncreasing,
-    MultiplicityTooLarge,
-    NotReadable,
-    InvalidTarget,
-    FactorOutOfRange,
-    WeightCountMismatch,
-    NonPositiveWeight,
-    NotConvertible,
-    StepsNotRising,
-    DifferenceTooLarge,
+    TooFewPoints = 1,
+    InvalidDegree = 2,
+    DegreeTooHigh = 3,
+    TooManyPoles = 4,
+    ConfusedPoints = 5,
+    PoleCountMismatch = 6,
+    NotTriples = 7,
+    TooLarge = 8,
+    BufferTooShort = 9,
+    CoordinateOutOfRange = 10,
+    TooFewKnots = 12,
+    KnotsNotIncreasing = 13,
+    MultiplicityTooLarge = 14,
+    NotReadable = 15,
+    InvalidTarget = 16,
+    FactorOutOfRange = 17,
+    WeightCountMismatch = 18,
+    NonPositiveWeight = 19,
+    NotConvertible = 20,
+    StepsNotRising = 21,
+    DifferenceTooLarge = 22,
 }
 
 impl Refusal {
@@ -43,54 +42,16 @@ impl Refusal {
     pub fn number(self) -> u32
         ensures { result ≡ number_of self }
     {
-        match self {
-            Refusal::TooFewPoints => 1,
-            Refusal::InvalidDegree => 2,
-            Refusal::DegreeTooHigh => 3,
-            Refusal::TooManyPoles => 4,
-            Refusal::ConfusedPoints => 5,
-            Refusal::PoleCountMismatch => 6,
-            Refusal::NotTriples => 7,
-            Refusal::TooLarge => 8,
-            Refusal::BufferTooShort => 9,
-            Refusal::CoordinateOutOfRange => 10,
-            Refusal::TooFewKnots => 12,
-            Refusal::KnotsNotIncreasing => 13,
-            Refusal::MultiplicityTooLarge => 14,
-            Refusal::NotReadable => 15,
-            Refusal::InvalidTarget => 16,
-            Refusal::FactorOutOfRange => 17,
-            Refusal::WeightCountMismatch => 18,
-            Refusal::NonPositiveWeight => 19,
-            Refusal::NotConvertible => 20,
-            Refusal::StepsNotRising => 21,
-            Refusal::DifferenceTooLarge => 22,
-        }
+        self as u32
     }
-}
-
-// What a check, or checks one after the other, say.
-#[derive(Clone, Copy)]
-pub enum Verdict {
-    Pass,
-    Stop(Refusal),
-}
-
-// What the reader answers.
-#[derive(Clone, Copy)]
-pub enum Reading {
-    Read(Point),
-    Refused(Refusal),
 }
 
 // 17: a lightness factor that is not between 0.25 and 4.
-pub fn check_factor(factor: f64) -> Verdict
+pub fn check_factor(factor: f64) -> Result<(), Refusal>
     ensures { result ≡ factor_verdict factor }
 {
-    if factor <= 4.0 {
-        if 0.25 <= factor {
-            return Verdict::Pass;
-        }
+    if factor <= 4.0 && 0.25 <= factor {
+        return Ok(());
     }
-    Verdict::Stop(Refusal::FactorOutOfRange)
+    Err(Refusal::FactorOutOfRange)
 }

@@ -390,3 +390,9 @@ all_here (suc n) p k h e =
 pub all-next : (n : ℕ) (p : ℕ → Bool) → all_below n p ≡ true → p n ≡ true → all_below (n + 1) p ≡ true
 unfolding all_below
 all-next n p e h = rw (add-one n, e, h)
+
+-- only the numbers below n count
+pub some_same : (n : ℕ) (p q : ℕ → Bool) → ((k : ℕ) → k < n → p k ≡ q k) → some_below n p ≡ some_below n q
+unfolding some_below
+some_same zero p q e = refl
+some_same (suc n) p q e = rw (some_same n p q (λ k l. e k (omega arith)), e n (omega arith))
