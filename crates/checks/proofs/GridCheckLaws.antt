@@ -8,9 +8,7 @@ use lib.ListN.{length}
 use lib.Ieee.{Float}
 use borrow.Author.Tests.{ltb-false, eqb-true, not-false}
 use Rattle.places.proofs.PlaceLaws.{or_false}
-use Rattle.bspline.specs.declared.Verdict.{Verdict}
-use Rattle.bspline.specs.declared.Verdict.TheVariants.{Pass}
-use Rattle.bspline.specs.Refusals.{◌next◌, factor_verdict}
+use Rattle.bspline.specs.Refusals.{◌next◌, factor_verdict, Verdict, passes}
 use Rattle.bspline.proofs.CheckLaws.{both_pass, test_fails}
 use Rattle.checks.proofs.CheckLaws.{unchosen_pass}
 use Rattle.checks.specs.declared.Shape.{Shape}
@@ -27,7 +25,7 @@ points-few rows cols h k = mul-le-mul {n₁ = rows} {m₁ = cols} {n₂ = 64} {m
 pub places-few : (count degree : ℕ) → count ≤ 128 → degree ≤ 50 → count * (6 * degree + 24) ≤ 41472
 places-few count degree h k = mul-le-mul {n₁ = count} {m₁ = 6 * degree + 24} {n₂ = 128} {m₂ = 324} h (omega arith)
 
-pub grid-shaped : (places : ℕ) (h : Shape) → grid_shape_verdict places h ≡ Pass → GridShaped places h
+pub grid-shaped : (places : ℕ) (h : Shape) → grid_shape_verdict places h ≡ passes → GridShaped places h
 unfolding grid_shape_verdict
 grid-shaped places h e =
     let e₁ = both_pass _ _ e in
@@ -50,7 +48,7 @@ grid-shaped places h e =
       whole = eqb-true _ _ (not-false _ (test_fails _ _ e₄.1));
     }
 
-pub grid-room : (h : Shape) (r : GridRoom) → grid_room_verdict h r ≡ Pass → GridRoomy h r
+pub grid-room : (h : Shape) (r : GridRoom) → grid_room_verdict h r ≡ passes → GridRoomy h r
 unfolding grid_room_verdict
 grid-room h r e =
     let e₁ = both_pass _ _ e in
@@ -73,7 +71,7 @@ grid-room h r e =
       for_index = ltb-false _ _ (test_fails _ _ e₈.1);
     }
 
-pub grid_gives : (g : Grid) (r : GridRoom) → grid_checks g r ≡ Pass → GridShaped (length g.points) g.shape × GridRoomy g.shape r
+pub grid_gives : (g : Grid) (r : GridRoom) → grid_checks g r ≡ passes → GridShaped (length g.points) g.shape × GridRoomy g.shape r
 unfolding grid_checks
 grid_gives g r e =
     let a = both_pass (grid_shape_verdict (length g.points) g.shape) _ e in
@@ -85,11 +83,6 @@ pub record Degrees (h : Shape) : Type 0 where
   pub u-under : h.u ≤ h.rows - 1
   pub v-under : h.v ≤ h.cols - 1
 
-pub degrees-under : (t : Float) (h : Shape) → counts_verdict (ApproximateWithin t) h ≡ Pass → Degrees h
+pub degrees-under : (t : Float) (h : Shape) → counts_verdict (ApproximateWithin t) h ≡ passes → Degrees h
 unfolding counts_verdict
 degrees-under t h e = let a = both_pass _ _ e in record { u-under = unchosen_pass h.rows h.u a.0; v-under = unchosen_pass h.cols h.v a.1 }
-
-pub grid_checks_are : (points : List Float) (h : Shape) (v : Metric) (l : GridLent) (r : Verdict) → r ≡ (grid_shape_verdict (length points) h next grid_room_verdict h (grid_room_of l) next factor_verdict v.factor next coordinates_verdict points)
-    → r ≡ grid_checks (grid_of points h v) (grid_room_of l)
-unfolding grid_checks
-grid_checks_are points h v l r e = e

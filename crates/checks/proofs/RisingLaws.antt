@@ -13,6 +13,7 @@ use lib.ListN.{length}
 use lib.Ieee.{Float, nan, inf, fin, binary64, up, down, le, neg, of_bits}
 use lib.Ieee.Fits.{down_pos, and_l, and_r}
 use Rattle.places.specs.Places.{some_below}
+use Rattle.places.proofs.ListLaws.{any_place}
 use Rattle.places.proofs.PlaceLaws.{list_of-at, some_false}
 use Rattle.geometry.specs.declared.Point.{Point}
 use Rattle.geometry.specs.Doubles.{◌⊗◌, ◌⊘◌, nought, one, at}
@@ -22,8 +23,7 @@ use Rattle.geometry.proofs.ExactLaws.{Exact}
 use Rattle.geometry.proofs.FloatOrder.{holds, test}
 use Rattle.geometry.proofs.ShareLaws.{Share, nought-share, one-share, share-from_zero, part-to_one, part-share, part-order}
 use Rattle.geometry.proofs.SizeLaws.{Size}
-use Rattle.bspline.specs.declared.Verdict.TheVariants.{Pass}
-use Rattle.bspline.specs.Refusals.{outside, factor_verdict}
+use Rattle.bspline.specs.Refusals.{outside, factor_verdict, passes}
 use Rattle.bspline.specs.Spans.{NeverFalls}
 use Rattle.bspline.proofs.CheckLaws.{both_pass, test_fails}
 use Rattle.knots.specs.declared.Metric.{Metric}
@@ -31,7 +31,7 @@ use Rattle.knots.specs.Parameters.{confusion, chords, step_of, step_sums, from_z
 use Rattle.knots.proofs.ParameterLaws.{unless-some, sum_to, sums_at, length-zero_to-one}
 use Rattle.knots.proofs.StepLaws.{Bounded, Step, chord-step, spacing-step, least_step, sums-order, sums-exact, total-least, total-most}
 use Rattle.checks.specs.declared.Call.{Call}
-use Rattle.checks.specs.LadderChecks.{Lent, point_count, shape_verdict, count_verdict, room_verdict, room_of, coordinates_verdict, ladder_checks}
+use Rattle.checks.specs.LadderChecks.{Lent, point_count, shape_verdict, count_verdict, room_verdict, room_of, coordinates_verdict, ladder_verdict, ladder_checks}
 use Rattle.checks.proofs.CheckLaws.{checks_give}
 
 -- ---- sizes that the checks 10 and 17 let pass
@@ -72,7 +72,7 @@ inside : (x : Float) → outside x ≡ false → Size x (2 ^ 20)
 unfolding outside
 inside x e = let b = both_hold _ _ e in million x (test b.0) (test b.1)
 
-factor_size : (f : Float) → factor_verdict f ≡ Pass → Size f 4
+factor_size : (f : Float) → factor_verdict f ≡ passes → Size f 4
 unfolding factor_verdict
 factor_size f e = let b = both_hold _ _ (test_fails _ _ e) in four f (test b.0) (test b.1)
 
@@ -173,9 +173,9 @@ module _ (v : Metric) (n : ℕ) (point : ℕ → Point) (two : 2 ≤ n) (few : n
 
 -- ---- a ladder that passes the checks
 
-module _ (call : Call) (s : List Float) (degree : ℕ) (v : Metric) (l : Lent) (e : ladder_checks call s degree v l ≡ Pass) where
-  last_two : (factor_verdict v.factor ≡ Pass) × (coordinates_verdict s ≡ Pass)
-  unfolding ladder_checks
+module _ (call : Call) (s : List Float) (degree : ℕ) (v : Metric) (l : Lent) (e : ladder_checks call s degree v l ≡ passes) where
+  last_two : (factor_verdict v.factor ≡ passes) × (coordinates_verdict s ≡ passes)
+  unfolding ladder_verdict
   last_two =
       let a = both_pass (shape_verdict (length s) degree) _ e in
       let b = both_pass (count_verdict call (point_count s) degree) _ a.1 in
@@ -184,7 +184,7 @@ module _ (call : Call) (s : List Float) (degree : ℕ) (v : Metric) (l : Lent) (
 
   coordinate : (k : ℕ) → k < length s → Size (at s k) (2 ^ 20)
   unfolding coordinates_verdict
-  coordinate k h = inside (at s k) (some_false (length s) (λ j. outside (at s j)) (test_fails _ _ last_two.1) k h)
+  coordinate k h = inside (at s k) (some_false (length s) (λ j. outside (at s j)) (sym (any_place outside nan s) ∙ test_fails _ _ last_two.1) k h)
 
   pub ladder-rises : (params : List Float) → point_parameters v (point_count s) (point_at s) ≡ some params → Rising params (point_count s)
   unfolding point_at

@@ -2,8 +2,7 @@
 -- A grid is `rows` times `cols` points, row after row: u runs along the rows' numbers, v along a row.
 use Rattle.std.specs.Prelude.{ℕ, ◌+◌, ◌*◌, ◌≤◌, max, ◌≡◌, not, ◌||◌, List, eqb, ltb, length, Float}
 use Rattle.bspline.specs.declared.Refusal.TheVariants.{TooFewPoints, InvalidDegree, PoleCountMismatch, TooLarge, BufferTooShort}
-use Rattle.bspline.specs.declared.Verdict.{Verdict}
-use Rattle.bspline.specs.Refusals.{stop_if, ◌next◌, factor_verdict}
+use Rattle.bspline.specs.Refusals.{stop_if, ◌next◌, factor_verdict, Verdict}
 use Rattle.knots.specs.declared.Metric.{Metric}
 use Rattle.checks.specs.declared.Shape.{Shape}
 use Rattle.checks.specs.declared.GridRoom.{GridRoom}

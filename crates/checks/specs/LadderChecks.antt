@@ -1,11 +1,8 @@
 -- What a ladder call is lent, and its checks up to 10. Definitions only.
-use Rattle.std.specs.Prelude.{ℕ, ◌+◌, ◌-◌, ◌*◌, ◌/◌, ◌%◌, ◌≤◌, ◌≡◌, not, ◌||◌, List, eqb, ltb, length, replicate, Float}
-use Rattle.places.specs.Places.{some_below}
-use Rattle.geometry.specs.Doubles.{at}
+use Rattle.std.specs.Prelude.{Ok, Err, ℕ, ◌+◌, ◌-◌, ◌*◌, ◌/◌, ◌%◌, ◌≤◌, ◌≡◌, not, ◌||◌, List, eqb, ltb, length, replicate, Float}
+use Rattle.std.specs.List.{list_any}
 use Rattle.bspline.specs.declared.Refusal.TheVariants.{TooFewPoints, InvalidDegree, DegreeTooHigh, TooManyPoles, NotTriples, TooLarge, BufferTooShort, CoordinateOutOfRange}
-use Rattle.bspline.specs.declared.Verdict.{Verdict}
-use Rattle.bspline.specs.declared.Verdict.TheVariants.{Pass, Stop}
-use Rattle.bspline.specs.Refusals.{stop_if, ◌next◌, outside, factor_verdict}
+use Rattle.bspline.specs.Refusals.{stop_if, ◌next◌, outside, factor_verdict, Verdict, passes}
 use Rattle.knots.specs.declared.Metric.{Metric}
 use Rattle.checks.specs.declared.Room.{Room}
 use Rattle.checks.specs.declared.Aim.{Aim}
@@ -72,13 +69,16 @@ room_verdict n p r =
 
 -- 10
 unfoldable pub coordinates_verdict : List Float → Verdict
-coordinates_verdict s = stop_if (some_below (length s) (λ k. outside (at s k))) CoordinateOutOfRange
+coordinates_verdict s = stop_if (list_any outside s) CoordinateOutOfRange
 
 -- one after the other
-unfoldable pub ladder_checks : Call → List Float → ℕ → Metric → Lent → Verdict
-ladder_checks call s degree v l =
-    shape_verdict (length s) degree next count_verdict call (point_count s) degree next room_verdict (point_count s) degree (room_of l)
-    next factor_verdict v.factor next coordinates_verdict s
+unfoldable pub ladder_verdict : Call → List Float → ℕ → Float → Room → Verdict
+ladder_verdict call s degree f r =
+    shape_verdict (length s) degree next count_verdict call (point_count s) degree next room_verdict (point_count s) degree r
+    next factor_verdict f next coordinates_verdict s
+
+abbrev pub ladder_checks : Call → List Float → ℕ → Metric → Lent → Verdict
+ladder_checks call s degree v l = ladder_verdict call s degree v.factor (room_of l)
 
 -- what they give: the shape of the points, and room for n points of degree p
 pub record Shaped (places p : ℕ) : Type 0 where
@@ -98,5 +98,5 @@ pub record Roomy (n p : ℕ) (r : Room) : Type 0 where
 
 -- the work or index slice: as lent where only the checks ran, else z in every place
 unfoldable pub cleared : {A : Type 0} → A → Verdict → List A → List A
-cleared z (Stop c) xs = xs
-cleared z Pass xs = replicate (length xs) z
+cleared z (Err c) xs = xs
+cleared z (Ok p) xs = replicate (length xs) z

@@ -1,65 +1,59 @@
 // A ladder's checks up to 10, in the documents' order: 7, 8, 1, 2, 3, 4, 9, 17, 10. They touch no lent slice.
-ghost use Rattle.std.specs.Prelude.{◌≡◌, ◌-◌, ◌/◌, ◌≤◌, length};
-ghost use Rattle.bspline.specs.Refusals.{outside, ◌next◌, factor_verdict};
-ghost use Rattle.checks.specs.LadderChecks.{shape_verdict, chosen_verdict, unchosen_verdict, count_verdict, room_verdict, coordinates_verdict};
+#![tactic(auto, unfolding(crate::specs::LadderChecks::shape_verdict, crate::specs::LadderChecks::chosen_verdict, crate::specs::LadderChecks::unchosen_verdict, crate::specs::LadderChecks::count_verdict, crate::specs::LadderChecks::room_verdict, crate::specs::LadderChecks::coordinates_verdict, crate::specs::LadderChecks::ladder_verdict))]
+
+ghost use Rattle.std.specs.Prelude.{◌≡◌, ◌-◌, ◌/◌, ◌≤◌, length, OnOk};
+ghost use Rattle.std.specs.List.{list_any};
+ghost use Rattle.bspline.specs.Refusals.{outside, passes};
+ghost use Rattle.checks.specs.LadderChecks.{shape_verdict, chosen_verdict, unchosen_verdict, count_verdict, room_verdict, coordinates_verdict, ladder_verdict, Shaped, Roomy};
 
 use crate::{Call, Room};
-use bspline::{Refusal, Verdict};
+use bspline::{Refusal, check_factor};
 
 // 7, 8, 1, 2.
-fn check_shape(places: usize, degree: usize) -> Verdict
-    ensures { result ≡ shape_verdict places degree }
+fn check_shape(places: usize, degree: usize) -> Result<(), Refusal>
+    ensures verdict { result ≡ shape_verdict places degree }
+    ensures shaped { OnOk result (Shaped places degree) }
 {
     if places % 3 != 0 {
-        return Verdict::Stop(Refusal::NotTriples);
+        return Err(Refusal::NotTriples);
     }
     if 1024 < places / 3 {
-        return Verdict::Stop(Refusal::TooLarge);
+        return Err(Refusal::TooLarge);
     }
     if places / 3 < 2 {
-        return Verdict::Stop(Refusal::TooFewPoints);
+        return Err(Refusal::TooFewPoints);
     }
-    if degree < 1 {
-        return Verdict::Stop(Refusal::InvalidDegree);
+    if degree < 1 || 25 < degree {
+        return Err(Refusal::InvalidDegree);
     }
-    if 25 < degree {
-        return Verdict::Stop(Refusal::InvalidDegree);
-    }
-    Verdict::Pass
-}
-
-// n - 1, and 0 for 0.
-fn one_less(n: usize) -> usize
-    ensures { result ≡ n - 1 }
-{
-    if n == 0 { 0 } else { n - 1 }
+    Ok(())
 }
 
 // 3 and 4 where a pole count is chosen: 0 poles count as 1.
-pub fn check_chosen(n: usize, degree: usize, count: usize) -> Verdict
+pub fn check_chosen(n: usize, degree: usize, count: usize) -> Result<(), Refusal>
     ensures { result ≡ chosen_verdict n degree count }
 {
-    if one_less(count) < degree {
-        return Verdict::Stop(Refusal::DegreeTooHigh);
+    if count.saturating_sub(1) < degree {
+        return Err(Refusal::DegreeTooHigh);
     }
     if n < count {
-        return Verdict::Stop(Refusal::TooManyPoles);
+        return Err(Refusal::TooManyPoles);
     }
-    Verdict::Pass
+    Ok(())
 }
 
 // 3 where none is.
-pub fn check_unchosen(n: usize, degree: usize) -> Verdict
+pub fn check_unchosen(n: usize, degree: usize) -> Result<(), Refusal>
     ensures { result ≡ unchosen_verdict n degree }
 {
-    if one_less(n) < degree {
-        return Verdict::Stop(Refusal::DegreeTooHigh);
+    if n.saturating_sub(1) < degree {
+        return Err(Refusal::DegreeTooHigh);
     }
-    Verdict::Pass
+    Ok(())
 }
 
 // 3 and 4.
-pub fn check_count(call: Call, n: usize, degree: usize) -> Verdict
+fn check_count(call: Call, n: usize, degree: usize) -> Result<(), Refusal>
     ensures { result ≡ count_verdict call n degree }
 {
     match call {
@@ -71,101 +65,67 @@ pub fn check_count(call: Call, n: usize, degree: usize) -> Verdict
 }
 
 // 9.
-fn check_room(n: usize, degree: usize, room: Room) -> Verdict
+fn check_room(n: usize, degree: usize, room: Room) -> Result<(), Refusal>
     requires { (n ≤ 1024) × (degree ≤ 25) }
-    ensures { result ≡ room_verdict n degree room }
+    ensures verdict { result ≡ room_verdict n degree room }
+    ensures roomy { OnOk result (Roomy n degree room) }
 {
     let knots = n + degree + 1;
     if room.poles < 3 * n {
-        return Verdict::Stop(Refusal::BufferTooShort);
+        return Err(Refusal::BufferTooShort);
     }
-    if room.flat < knots {
-        return Verdict::Stop(Refusal::BufferTooShort);
-    }
-    if room.knots < knots {
-        return Verdict::Stop(Refusal::BufferTooShort);
-    }
-    if room.mults < knots {
-        return Verdict::Stop(Refusal::BufferTooShort);
+    if room.flat < knots || room.knots < knots || room.mults < knots {
+        return Err(Refusal::BufferTooShort);
     }
     if room.work < 4 * degree * n + 16 * n + 64 {
-        return Verdict::Stop(Refusal::BufferTooShort);
+        return Err(Refusal::BufferTooShort);
     }
     if room.index < 4 * n {
-        return Verdict::Stop(Refusal::BufferTooShort);
+        return Err(Refusal::BufferTooShort);
     }
-    Verdict::Pass
+    Ok(())
 }
 
 // Not between -1,000,000 and 1,000,000.
 fn is_outside(x: f64) -> bool
     ensures { result ≡ outside x }
 {
-    if x <= 1000000.0 {
-        if -1000000.0 <= x {
-            return false;
-        }
-    }
-    true
+    !(x <= 1000000.0 && -1000000.0 <= x)
+}
+
+// Whether some coordinate is.
+fn some_outside(points: &[f64]) -> bool
+    ensures { result ≡ list_any outside points.now }
+{
+    points.iter().any(|x| is_outside(*x))
 }
 
 // 10.
-fn check_coordinates(points: &[f64]) -> Verdict
+pub fn check_coordinates(points: &[f64]) -> Result<(), Refusal>
     ensures { result ≡ coordinates_verdict points.now }
 {
-    for k in 0..points.len() {
-        if is_outside(points[k]) {
-            return Verdict::Stop(Refusal::CoordinateOutOfRange);
-        }
+    if some_outside(points) {
+        return Err(Refusal::CoordinateOutOfRange);
     }
-    Verdict::Pass
+    Ok(())
 }
 
-// 17 and 10.
-pub fn check_given(points: &[f64], factor: f64) -> Verdict
-    ensures { result ≡ (factor_verdict factor next coordinates_verdict points.now) }
-{
-    match bspline::check_factor(factor) {
-        Verdict::Stop(c) => Verdict::Stop(c),
-        Verdict::Pass => check_coordinates(points),
-    }
-}
-
-// 9, 17 and 10.
-fn check_lent(points: &[f64], degree: usize, room: Room, factor: f64) -> Verdict
-    requires { (length points.now / 3 ≤ 1024) × (degree ≤ 25) }
-    ensures { result ≡ (room_verdict (length points.now / 3) degree room next factor_verdict factor next coordinates_verdict points.now) }
-{
-    match check_room(points.len() / 3, degree, room) {
-        Verdict::Stop(c) => Verdict::Stop(c),
-        Verdict::Pass => check_given(points, factor),
-    }
-}
-
-// What 3 and 4 said, then 9, 17 and 10.
-fn check_poles(points: &[f64], degree: usize, poles: Verdict, room: Room, factor: f64) -> Verdict
-    requires { (length points.now / 3 ≤ 1024) × (degree ≤ 25) }
-    ensures { result ≡ (poles next room_verdict (length points.now / 3) degree room next factor_verdict factor next coordinates_verdict points.now) }
-{
-    match poles {
-        Verdict::Stop(c) => Verdict::Stop(c),
-        Verdict::Pass => check_lent(points, degree, room, factor),
-    }
-}
-
-// All of them, with what 3 and 4 said.
+// All of them.
 pub fn check_ladder(
+    call: Call,
     points: &[f64],
     degree: usize,
-    poles: Verdict,
     room: Room,
     factor: f64,
-) -> Verdict
-    ensures { result ≡ (shape_verdict (length points.now) degree next poles next room_verdict (length points.now / 3) degree room
-        next factor_verdict factor next coordinates_verdict points.now) }
+) -> Result<(), Refusal>
+    ensures verdict { result ≡ ladder_verdict call points.now degree factor room }
+    ensures shaped { OnOk result (Shaped (length points.now) degree) }
+    ensures counted { OnOk result (count_verdict call (length points.now / 3) degree ≡ passes) }
+    ensures roomy { OnOk result (Roomy (length points.now / 3) degree room) }
 {
-    match check_shape(points.len(), degree) {
-        Verdict::Stop(c) => Verdict::Stop(c),
-        Verdict::Pass => check_poles(points, degree, poles, room, factor),
-    }
+    check_shape(points.len(), degree)?;
+    check_count(call, points.len() / 3, degree)?;
+    check_room(points.len() / 3, degree, room)?;
+    check_factor(factor)?;
+    check_coordinates(points)
 }
