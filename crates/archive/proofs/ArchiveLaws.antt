@@ -13,9 +13,6 @@ use Rattle.places.proofs.PlaceLaws.{length-list_of, list_of-at, part-laid}
 use Rattle.geometry.specs.Doubles.{nought, one, at, largest}
 use Rattle.geometry.specs.Points.{distance, point_at}
 use Rattle.bspline.specs.declared.Refusal.{Refusal}
-use Rattle.bspline.specs.declared.Verdict.{Verdict}
-use Rattle.bspline.specs.declared.Verdict.TheVariants.{Pass, Stop}
-use Rattle.bspline.specs.declared.Reading.TheVariants.{Read}
 use Rattle.bspline.specs.Reader.{flat_knots, curve_point, reader_verdict, reading_of}
 use Rattle.bspline.proofs.CheckLaws.{numbered}
 use Rattle.knots.specs.declared.Metric.{Metric}
@@ -35,15 +32,15 @@ use Rattle.checks.specs.declared.Call.{Call}
 use Rattle.checks.specs.LadderChecks.{Lent, Roomy, point_count, count_verdict, room_of, ladder_checks}
 use Rattle.checks.proofs.CheckLaws.{checks_give, count_under}
 use Rattle.checks.proofs.RisingLaws.{Rising, ladder-rises}
-use Rattle.making.specs.Results.{Result, refused, accepted, fit_by}
+use Rattle.making.specs.Results.{FitResult, fit_by}
 use Rattle.making.proofs.HandedLaws.{FitOn, taken}
-use Rattle.ladders.specs.declared.Answer.{Answer}
-use Rattle.ladders.specs.declared.Answer.TheVariants.{Fitted, Refused}
-use Rattle.ladders.specs.Ladders.{fit_with, ladder_fit, checked, result_of, result_number, answer_of, handed, ladder_of, HandsOut}
+use Rattle.ladders.specs.Ladders.{fit_with, ladder_fit, checked, result_of, result_number, answer_of, handed, ladder_of, HandsOut, Answer}
 use Rattle.telling.specs.Told.{tellable, nothing, judged, told_largest, told_counts}
 use Rattle.archive.specs.Archive.{archived_poles, archived_knots, archived_mults, parameter_of, fit_point, ReadsBack, ArchiveReadsFit, ToldReadsFit}
 use Rattle.archive.proofs.EndLaws.{Curve, call-curve}
 use Rattle.archive.proofs.ReadLaws.{reads-taken, read-there, first-told, ends-told, told-taken, told-read}
+use Rattle.std.specs.Prelude.{Ok, Err}
+use Rattle.bspline.specs.Refusals.{Verdict, passes}
 
 -- ---- what stands in the slices
 
@@ -58,8 +55,8 @@ module _ (call : Call) (s : List Float) (degree : ℕ) (v : Metric) (l l' : Lent
   abbrev along : List Float → Direction
   along params = ladder v.factor s degree params
 
-  module _ (params : List Float) (found : point_parameters v (point_count s) (point_at s) ≡ some params) (passes : ladder_checks call s degree v l ≡ Pass)
-      (a : Marked) (by : fit_by call (along params) ≡ accepted a) (is : f ≡ fit_of degree a)
+  module _ (params : List Float) (found : point_parameters v (point_count s) (point_at s) ≡ some params) (passes : ladder_checks call s degree v l ≡ passes)
+      (a : Marked) (by : fit_by call (along params) ≡ Ok a) (is : f ≡ fit_of degree a)
       (poles : l'.poles ≡ laid 0 (length (unmarked a).poles) (at (unmarked a).poles) l.poles)
       (flat : l'.flat ≡ laid 0 (length (unmarked a).flat) (at (unmarked a).flat) l.flat)
       (knots : l'.knots ≡ laid 0 (distinct_knots (unmarked a).flat) (knot_at (unmarked a).flat) l.knots)
@@ -79,7 +76,7 @@ module _ (call : Call) (s : List Float) (degree : ℕ) (v : Metric) (l l' : Lent
         let low = g.0.low in
         let under = count_under call n degree g.1 low in
         call-curve v.factor s degree params (λ k h. rising.shares k (omega (arith, rising.long))) (omega (arith, under, rising.long)) call low
-        (subst (λ (m : ℕ). count_verdict call m degree ≡ Pass) (sym rising.long) g.1) a by
+        (subst (λ (m : ℕ). count_verdict call m degree ≡ passes) (sym rising.long) g.1) a by
 
     room : Roomy n degree (room_of l)
     room = (checks_give call s degree v l passes).2
@@ -145,14 +142,14 @@ module _ (call : Call) (s : List Float) (degree : ℕ) (v : Metric) (l l' : Lent
         ∙ ap (λ (x : List Float). table_point (basis_table c.flat degree params) x 0 k) poles_are
 
     -- where the reader takes what is archived, it takes the fit's own curve, and its answer at each parameter is the fit's own point
-    module _ (u : Float) (takes : reader_verdict (archived_poles f l') degree (archived_knots f l') (archived_mults f l') u ≡ Pass) where
-      made-taken : reader_verdict c.poles degree (list_of (distinct_knots c.flat) (knot_at c.flat)) (list_of (distinct_knots c.flat) (multiplicity_at c.flat)) u ≡ Pass
+    module _ (u : Float) (takes : reader_verdict (archived_poles f l') degree (archived_knots f l') (archived_mults f l') u ≡ passes) where
+      made-taken : reader_verdict c.poles degree (list_of (distinct_knots c.flat) (knot_at c.flat)) (list_of (distinct_knots c.flat) (multiplicity_at c.flat)) u ≡ passes
       made-taken = rw (poles_are, knots_are, mults_are) at takes
 
       answer : (k : ℕ) → k < n
           → reading_of (reader_verdict (archived_poles f l') degree (archived_knots f l') (archived_mults f l') (parameter_of v s degree k))
-          (curve_point (flat_knots (archived_knots f l') (archived_mults f l')) degree (archived_poles f l') (parameter_of v s degree k)) ≡ Read (fit_point v s degree f l' k)
-      answer k h = rw (poles_are, knots_are, mults_are, params_are) (read-there c.flat degree curve-ends c.poles poles-long u made-taken params n rising k h) ∙ ap Read (sym (own-point k))
+          (curve_point (flat_knots (archived_knots f l') (archived_mults f l')) degree (archived_poles f l') (parameter_of v s degree k)) ≡ Ok (fit_point v s degree f l' k)
+      answer k h = rw (poles_are, knots_are, mults_are, params_are) (read-there c.flat degree curve-ends c.poles poles-long u made-taken params n rising k h) ∙ ap Ok (sym (own-point k))
 
       degree-told : get_or (archived_mults f l') 0 0 ≡ degree + 1
       degree-told = ap (λ (m : List ℕ). get_or m 0 0) mults_are ∙ first-told c.flat degree curve-ends c.poles poles-long u made-taken
@@ -177,23 +174,23 @@ module _ (call : Call) (s : List Float) (degree : ℕ) (v : Metric) (l l' : Lent
         }
 
   -- who hands a call's result out has handed out a curve that reads back. The slices that the call was judged by are m: those that were lent, or none.
-  pub hands-back : (m : Lent) → (ladder_checks call s degree v m ≡ Pass → ladder_checks call s degree v l ≡ Pass) → HandsOut degree (result_of call s degree v m) l l' (Fitted f) → ReadsBack v s degree l' f
+  pub hands-back : (m : Lent) → (ladder_checks call s degree v m ≡ passes → ladder_checks call s degree v l ≡ passes) → HandsOut degree (result_of call s degree v m) l l' (Ok f) → ReadsBack v s degree l' f
   unfolding result_of ladder_fit checked fit_with answer_of handed
   hands-back m lends h = by_checks (ladder_checks call s degree v m) refl (point_parameters v (point_count s) (point_at s)) refl h
     where
-      refusal : (x : Refusal) → Fitted f ≡ Refused x → ReadsBack v s degree l' f
+      refusal : (x : Refusal) → Ok f ≡ Err x → ReadsBack v s degree l' f
       refusal x e = let z : ◌≡◌ {A = ℕ} 0 1 = cc in absurd (omega arith)
 
-      by-fit : (params : List Float) → point_parameters v (point_count s) (point_at s) ≡ some params → ladder_checks call s degree v m ≡ Pass
-          → (r : Result) → fit_by call (along params) ≡ r → HandsOut degree r l l' (Fitted f) → ReadsBack v s degree l' f
-      by-fit params p e (refused x) q h = refusal x h.answer
-      by-fit params p e (accepted a) q h = let i : f ≡ fit_of degree a = cc h.answer in accepted-back params p (lends e) a q i h.poles h.flat h.knots h.mults
+      by-fit : (params : List Float) → point_parameters v (point_count s) (point_at s) ≡ some params → ladder_checks call s degree v m ≡ passes
+          → (r : FitResult) → fit_by call (along params) ≡ r → HandsOut degree r l l' (Ok f) → ReadsBack v s degree l' f
+      by-fit params p e (Err x) q h = refusal x h.answer
+      by-fit params p e (Ok a) q h = let i : f ≡ fit_of degree a = cc h.answer in accepted-back params p (lends e) a q i h.poles h.flat h.knots h.mults
 
       by_checks : (w : Verdict) → ladder_checks call s degree v m ≡ w → (o : Option (List Float)) → point_parameters v (point_count s) (point_at s) ≡ o
-          → HandsOut degree (checked w (fit_with v.factor s degree (fit_by call) o)) l l' (Fitted f) → ReadsBack v s degree l' f
-      by_checks (Stop x) e o p h = refusal x h.answer
-      by_checks Pass e none p h = refusal _ h.answer
-      by_checks Pass e (some params) p h = by-fit params p e (fit_by call (along params)) refl h
+          → HandsOut degree (checked w (fit_with v.factor s degree (fit_by call) o)) l l' (Ok f) → ReadsBack v s degree l' f
+      by_checks (Err x) e o p h = refusal x h.answer
+      by_checks passes e none p h = refusal _ h.answer
+      by_checks passes e (some params) p h = by-fit params p e (fit_by call (along params)) refl h
 
 -- of every ladder call
 pub archive_reads_fit : ArchiveReadsFit
@@ -201,20 +198,20 @@ archive_reads_fit call s degree v l l' f h = hands-back call s degree v l l' f l
 
 -- ---- for C
 
--- a call judged with nothing lent is refused
-lends : (call : Call) (s : List Float) (degree : ℕ) (v : Metric) (b : Bool) (l : Lent) → ladder_checks call s degree v (cond b l nothing) ≡ Pass → ladder_checks call s degree v l ≡ Pass
+-- a call judged with nothing lent is Err
+lends : (call : Call) (s : List Float) (degree : ℕ) (v : Metric) (b : Bool) (l : Lent) → ladder_checks call s degree v (cond b l nothing) ≡ passes → ladder_checks call s degree v l ≡ passes
 lends call s degree v true l e = e
 lends call s degree v false l e = let g = checks_give call s degree v nothing e in absurd (omega (arith, g.0.least, g.2.for_poles))
 
 -- a result without one is a fit
-fit_told : (degree : ℕ) (r : Result) → 0 ≡ result_number r → (f : Fit) × (answer_of degree r ≡ Fitted f)
+fit_told : (degree : ℕ) (r : FitResult) → 0 ≡ result_number r → (f : Fit) × (answer_of degree r ≡ Ok f)
 unfolding result_number answer_of
-fit_told degree (accepted a) e = (fit_of degree a, refl)
-fit_told degree (refused c) e = absurd (omega (arith, numbered c))
+fit_told degree (Ok a) e = (fit_of degree a, refl)
+fit_told degree (Err c) e = absurd (omega (arith, numbered c))
 
 pub told_reads_fit : ToldReadsFit
 told_reads_fit call s degree v l l' most most' counts counts' t =
     let m = judged l most counts in
     let a = fit_told degree (result_of call s degree v m) t.number in
-    let told : HandsOut degree (result_of call s degree v m) l l' (Fitted a.0) = rw a.1 at t.hands in
+    let told : HandsOut degree (result_of call s degree v m) l l' (Ok a.0) = rw a.1 at t.hands in
     (a.0, (t.most ∙ ap (λ (r : Answer). told_largest r most) a.1, (t.told ∙ ap (λ (r : Answer). told_counts r counts) a.1, hands-back call s degree v l l' a.0 m (lends call s degree v (tellable most counts) l) told)))

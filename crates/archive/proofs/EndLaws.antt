@@ -30,12 +30,13 @@ use Rattle.refinement.proofs.RoundLaws.{with_is, with-grows}
 use Rattle.fitting.specs.Within.{Candidate, Marked, table_on}
 use Rattle.fitting.specs.Marks.{unmarked}
 use Rattle.fitting.proofs.RefinedLaws.{next_knots}
-use Rattle.bspline.specs.declared.Verdict.TheVariants.{Pass}
 use Rattle.checks.specs.declared.Call.{Call}
 use Rattle.checks.specs.LadderChecks.{count_verdict}
-use Rattle.making.specs.Results.{accepted, fit_by}
+use Rattle.making.specs.Results.{fit_by}
 use Rattle.making.proofs.HandedLaws.{FitOn, Sized, refined-fit, spread_sized}
 use Rattle.making.proofs.FitLaws.{call-fit}
+use Rattle.std.specs.Prelude.{Ok}
+use Rattle.bspline.specs.Refusals.{passes}
 
 -- ---- one value sorted in
 
@@ -163,7 +164,7 @@ next-round d flat new r h =
       in_order = ascending-sorted (flat ++ new);
     }
 
--- ---- the knots of every accepted ladder fit, by whichever call
+-- ---- the knots of every Ok ladder fit, by whichever call
 
 -- knots of the poles' degree begin at 0 and end at 1
 pub record Curve (d : Direction) (flat : List Float) : Type 0 where
@@ -192,7 +193,7 @@ module _ (factor : Float) (s : List Float) (degree : ℕ) (params : List Float) 
         sized = record { low = omega (arith, g.0, h.sized.low); high = omega (arith, g.1) };
       }
 
-  pub call-curve : (call : Call) → 1 ≤ degree → count_verdict call (length params) degree ≡ Pass → (a : Marked) → fit_by call along ≡ accepted a → FitOn (Curve along) along (unmarked a)
+  pub call-curve : (call : Call) → 1 ≤ degree → count_verdict call (length params) degree ≡ passes → (a : Marked) → fit_by call along ≡ Ok a → FitOn (Curve along) along (unmarked a)
   unfolding ladder
   call-curve =
       let l = length-averaged params degree in

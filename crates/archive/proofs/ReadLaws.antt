@@ -15,12 +15,8 @@ use Rattle.geometry.specs.declared.Point.{Point}
 use Rattle.geometry.specs.Doubles.{nought, one, at}
 use Rattle.geometry.specs.Points.{put_point}
 use Rattle.geometry.proofs.ShareLaws.{share-number, share-from_zero, share-to_one}
-use Rattle.bspline.specs.declared.Verdict.{Verdict}
-use Rattle.bspline.specs.declared.Verdict.TheVariants.{Pass, Stop}
-use Rattle.bspline.specs.declared.Reading.{Reading}
-use Rattle.bspline.specs.declared.Reading.TheVariants.{Read}
 use Rattle.bspline.specs.Spans.{NeverFalls, first_parameter, last_parameter, InRange}
-use Rattle.bspline.specs.Reader.{flat_knots, curve_point, not_increasing, reader_verdict, reading_of, reading_number, Reads}
+use Rattle.bspline.specs.Reader.{flat_knots, curve_point, not_increasing, reader_verdict, reading_of, reading_number, Reads, Reading}
 use Rattle.bspline.proofs.CheckLaws.{Taken, taken, taken_there, numbers, numbered}
 use Rattle.knots.specs.Knots.{distinct_knots, knot_at, multiplicity_at}
 use Rattle.knots.proofs.KnotLaws.{Ends}
@@ -29,15 +25,17 @@ use Rattle.tables.proofs.TableLaws.{point_read}
 use Rattle.checks.proofs.RisingLaws.{Rising}
 use Rattle.telling.specs.ToldReading.{told_reading, told_point, ToldReads}
 use Rattle.archive.proofs.RunLaws.{same-flat, last-wide, first-mult, first-knot, last-knot}
+use Rattle.std.specs.Prelude.{Ok, Err}
+use Rattle.bspline.specs.Refusals.{Verdict, passes}
 
 -- what reads at some parameter is taken
-pub reads-taken : (poles : List Float) (d : ℕ) (knots : List Float) (mults : List ℕ) (u : Float) (p : Point) → Reads poles d knots mults u (Read p) → reader_verdict poles d knots mults u ≡ Pass
+pub reads-taken : (poles : List Float) (d : ℕ) (knots : List Float) (mults : List ℕ) (u : Float) (p : Point) → Reads poles d knots mults u (Ok p) → reader_verdict poles d knots mults u ≡ passes
 unfolding reading_of
 reads-taken poles d knots mults u p h = go (reader_verdict poles d knots mults u) h.answer
   where
-    go : (w : Verdict) → Read p ≡ reading_of w (curve_point (flat_knots knots mults) d poles u) → w ≡ Pass
-    go Pass e = refl
-    go (Stop c) e = let z : ◌≡◌ {A = ℕ} 0 1 = cc in absurd (omega arith)
+    go : (w : Verdict) → Ok p ≡ reading_of w (curve_point (flat_knots knots mults) d poles u) → w ≡ passes
+    go passes e = refl
+    go (Err c) e = let z : ◌≡◌ {A = ℕ} 0 1 = cc in absurd (omega arith)
 
 module _ (flat : List Float) (d : ℕ) (ends : 2 * d + 2 ≤ length flat → Ends d flat) (poles : List Float) (count : length poles ≡ 3 * (length flat - d - 1)) where
   abbrev D : ℕ
@@ -49,7 +47,7 @@ module _ (flat : List Float) (d : ℕ) (ends : 2 * d + 2 ≤ length flat → End
   abbrev mults : List ℕ
   mults = list_of D (multiplicity_at flat)
 
-  module _ (w : Float) (passes : reader_verdict poles d knots mults w ≡ Pass) where
+  module _ (w : Float) (passes : reader_verdict poles d knots mults w ≡ passes) where
     has : Taken poles d knots mults w
     has = taken poles d knots mults w passes
 
@@ -112,26 +110,26 @@ module _ (flat : List Float) (d : ℕ) (ends : 2 * d + 2 ≤ length flat → End
           ∙ point_read flat falls d long params range poles k (omega (arith, rising.long)) (λ x. last-wide flat d (ends long) number rises two at_first at_last long falls)
 
       -- at each of the parameters the answer is the table's point
-      pub read-there : (k : ℕ) → k < n → reading_of (reader_verdict poles d knots mults (at params k)) (curve_point (flat_knots knots mults) d poles (at params k)) ≡ Read (table_point (basis_table flat d params) poles 0 k)
+      pub read-there : (k : ℕ) → k < n → reading_of (reader_verdict poles d knots mults (at params k)) (curve_point (flat_knots knots mults) d poles (at params k)) ≡ Ok (table_point (basis_table flat d params) poles 0 k)
       unfolding reading_of
       read-there k l =
           let there = taken_there poles d knots mults w passes (at params k) (share-number (at params k) (rising.shares k l)) in
-          ap (λ (v : Verdict). reading_of v (curve_point (flat_knots knots mults) d poles (at params k))) there ∙ ap Read (point-same k l)
+          ap (λ (v : Verdict). reading_of v (curve_point (flat_knots knots mults) d poles (at params k))) there ∙ ap Ok (point-same k l)
 
 -- ---- for C
 
 -- a result of 0 is a reading
-pub told-taken : (poles : List Float) (d : ℕ) (knots : List Float) (mults : List ℕ) (u : Float) (out out' : List Float) → ToldReads poles d knots mults u out out' 0 → reader_verdict poles d knots mults u ≡ Pass
+pub told-taken : (poles : List Float) (d : ℕ) (knots : List Float) (mults : List ℕ) (u : Float) (out out' : List Float) → ToldReads poles d knots mults u out out' 0 → reader_verdict poles d knots mults u ≡ passes
 unfolding reading_of reading_number
 told-taken poles d knots mults u out out' h = go (ltb (length out) 3) (reader_verdict poles d knots mults u) h.value
   where
-    go : (b : Bool) (v : Verdict) → 0 ≡ cond b 9 (reading_number (reading_of v (curve_point (flat_knots knots mults) d poles u))) → v ≡ Pass
+    go : (b : Bool) (v : Verdict) → 0 ≡ cond b 9 (reading_number (reading_of v (curve_point (flat_knots knots mults) d poles u))) → v ≡ passes
     go true v e = absurd (omega arith)
-    go false Pass e = refl
-    go false (Stop c) e = absurd (omega (arith, numbered c))
+    go false passes e = refl
+    go false (Err c) e = absurd (omega (arith, numbered c))
 
 -- where there is room, what is told of a reading is 0 and its point
-pub told-read : (out out' : List Float) (r : ℕ) (a : Reading) (q : Point) → 3 ≤ length out → r ≡ told_reading out a → out' ≡ told_point out a → a ≡ Read q → (r ≡ 0) × (out' ≡ put_point 0 q out)
+pub told-read : (out out' : List Float) (r : ℕ) (a : Reading) (q : Point) → 3 ≤ length out → r ≡ told_reading out a → out' ≡ told_point out a → a ≡ Ok q → (r ≡ 0) × (out' ≡ put_point 0 q out)
 unfolding reading_number
 told-read out out' r a q h value after is =
     let room = le-ltb (length out) 3 h in

@@ -82,7 +82,10 @@ reader_verdict poles d knots mults u =
     next stop_if (not_readable (length poles / 3) d knots mults u) NotReadable
 
 -- the answer
-abbrev pub reading_of : Verdict → Point → Result Point Refusal
+abbrev pub Reading : Type 0
+Reading = Result Point Refusal
+
+abbrev pub reading_of : Verdict → Point → Reading
 reading_of v q = (v next Ok q)
 
 -- document 01's number of a verdict or an answer: 0 where it is no refusal
@@ -105,6 +108,6 @@ pub record Counted (n d : ℕ) (knots : List Float) (mults : List ℕ) : Type 0 
   pub whole : sum_of mults ≡ n + d + 1
 
 -- The contract of `read`. Nothing is lent to be written.
-pub record Reads (poles : List Float) (degree : ℕ) (knots : List Float) (mults : List ℕ) (u : Float) (r : Result Point Refusal) : Type 0 where
+pub record Reads (poles : List Float) (degree : ℕ) (knots : List Float) (mults : List ℕ) (u : Float) (r : Reading) : Type 0 where
   pub answer : r ≡ reading_of (reader_verdict poles degree knots mults u) (curve_point (flat_knots knots mults) degree poles u)
   pub number : number_in r ≡ number_in (reader_verdict poles degree knots mults u)

@@ -14,21 +14,17 @@ use Rattle.geometry.specs.Doubles.{nought, at}
 use Rattle.geometry.specs.Points.{point_at}
 use Rattle.bspline.specs.declared.Refusal.{Refusal}
 use Rattle.bspline.specs.declared.Refusal.TheVariants.{ConfusedPoints}
-use Rattle.bspline.specs.declared.Verdict.{Verdict}
-use Rattle.bspline.specs.declared.Verdict.TheVariants.{Pass, Stop}
 use Rattle.knots.specs.declared.Metric.{Metric}
 use Rattle.knots.specs.Parameters.{point_parameters}
 use Rattle.knots.specs.Knots.{run_start, distinct_knots, knot_at, multiplicity_at}
 use Rattle.tables.specs.Deviations.{unreadable}
 use Rattle.tables.specs.Directions.{ladder}
-use Rattle.ladders.specs.declared.Answer.{Answer}
-use Rattle.ladders.specs.declared.Answer.TheVariants.{Fitted}
 use Rattle.checks.specs.declared.Call.{Call}
 use Rattle.fitting.specs.Within.{Candidate, Marked, pole_count}
 use Rattle.fitting.specs.Marks.{unmarked, mark_of, fit_of}
 use Rattle.checks.specs.LadderChecks.{Lent, point_count, count_verdict, ladder_checks}
-use Rattle.making.specs.Results.{Result, refused, accepted, fit_by}
-use Rattle.ladders.specs.Ladders.{fit_with, ladder_fit, checked, result_of, answer_of, handed, handed_poles, handed_knots, handed_mults, LadderCall}
+use Rattle.making.specs.Results.{FitResult, fit_by}
+use Rattle.ladders.specs.Ladders.{fit_with, ladder_fit, checked, result_of, answer_of, handed, handed_poles, handed_knots, handed_mults, LadderCall, Answer}
 use Rattle.checks.proofs.CheckLaws.{checks_give, count_under}
 use Rattle.making.proofs.HandedLaws.{From, taken}
 use Rattle.making.proofs.FitLaws.{call_from}
@@ -36,6 +32,8 @@ use Rattle.ladders.proofs.LadderLaws.{params-long}
 use Rattle.card_reader.specs.declared.Tolerance.{Tolerance}
 use Rattle.card_printer.specs.Answer.{answer_text}
 use Rattle.card.specs.Answers.{call_of, buffers, fit_text, result_text, handed_text, FewIn}
+use Rattle.std.specs.Prelude.{Ok, Err}
+use Rattle.bspline.specs.Refusals.{Verdict, passes}
 
 -- a fit of n points of degree p: at most n poles, and flat knots to them
 pub record Stands (p n : ℕ) (f : Candidate) : Type 0 where
@@ -53,7 +51,7 @@ from_stands factor s degree params f h =
     record { low = omega arith; high = omega arith; poles-long = omega arith }
 
 -- what an answer and the slices have to be for a result
-abbrev pub Right : Answer → Lent → Result → Type 0
+abbrev pub Right : Answer → Lent → FitResult → Type 0
 Right r l x = FewIn r × (handed_text r l.poles l.knots l.mults ≡ result_text x)
 
 module _ (degree : ℕ) (l : Lent) where
@@ -61,7 +59,7 @@ module _ (degree : ℕ) (l : Lent) where
       → l.poles ≡ laid 0 (length (unmarked a).poles) (at (unmarked a).poles) (replicate 192 nought)
       → l.knots ≡ laid 0 (distinct_knots (unmarked a).flat) (knot_at (unmarked a).flat) (replicate 90 nought)
       → l.mults ≡ laid 0 (distinct_knots (unmarked a).flat) (multiplicity_at (unmarked a).flat) (replicate 90 0)
-      → Right (Fitted (fit_of degree a)) l (accepted a)
+      → Right (Ok (fit_of degree a)) l (Ok a)
   unfolding fit_of handed_text result_text fit_text distinct_knots
   right-fit n few low a h p k m =
       let f = unmarked a in
@@ -77,23 +75,23 @@ module _ (degree : ℕ) (l : Lent) where
       ap (λ (j : ℕ). take j l.poles) (sym long) ∙ ap (take (length f.poles)) p ∙ taken f.poles (replicate 192 nought) (omega (arith, length-replicate 192 nought)) in
       ((omega arith, omega arith), λ i. answer_text (mark_of a) (unreadable f.distances) (x i) (y i) (z i))
 
-  right-accepted : (r : Answer) (n : ℕ) → n ≤ 64 → degree ≤ 25 → (a : Marked) → Stands degree n (unmarked a) → r ≡ answer_of degree (accepted a)
-      → l.poles ≡ handed_poles (accepted a) buffers.poles → l.knots ≡ handed_knots (accepted a) buffers.knots → l.mults ≡ handed_mults (accepted a) buffers.mults
-      → Right r l (accepted a)
+  right-accepted : (r : Answer) (n : ℕ) → n ≤ 64 → degree ≤ 25 → (a : Marked) → Stands degree n (unmarked a) → r ≡ answer_of degree (Ok a)
+      → l.poles ≡ handed_poles (Ok a) buffers.poles → l.knots ≡ handed_knots (Ok a) buffers.knots → l.mults ≡ handed_mults (Ok a) buffers.mults
+      → Right r l (Ok a)
   unfolding answer_of handed
-  right-accepted r n few low a h e p k m = subst (λ (b : Answer). Right b l (accepted a)) (sym e) (right-fit n few low a h p k m)
+  right-accepted r n few low a h e p k m = subst (λ (b : Answer). Right b l (Ok a)) (sym e) (right-fit n few low a h p k m)
 
-  right-refused : (r : Answer) (c : Refusal) → r ≡ answer_of degree (refused c) → Right r l (refused c)
+  right-refused : (r : Answer) (c : Refusal) → r ≡ answer_of degree (Err c) → Right r l (Err c)
   unfolding answer_of handed_text result_text
-  right-refused r c e = subst (λ (b : Answer). Right b l (refused c)) (sym e) (tt, refl)
+  right-refused r c e = subst (λ (b : Answer). Right b l (Err c)) (sym e) (tt, refl)
 
 -- the fit that a tolerance asks for
 fit-right : (t : Tolerance) (factor : Float) (s : List Float) (degree : ℕ) (params : List Float) (l : Lent) (r : Answer)
-    → degree < length params → length params ≤ 64 → 1 ≤ degree → degree ≤ 25 → count_verdict (call_of t) (length params) degree ≡ Pass
-    → (x : Result) → fit_by (call_of t) (ladder factor s degree params) ≡ x → r ≡ answer_of degree x
+    → degree < length params → length params ≤ 64 → 1 ≤ degree → degree ≤ 25 → count_verdict (call_of t) (length params) degree ≡ passes
+    → (x : FitResult) → fit_by (call_of t) (ladder factor s degree params) ≡ x → r ≡ answer_of degree x
     → l.poles ≡ handed_poles x buffers.poles → l.knots ≡ handed_knots x buffers.knots → l.mults ≡ handed_mults x buffers.mults → Right r l x
-fit-right t factor s degree params l r under few low high e (refused c) q a p k m = right-refused degree l r c a
-fit-right t factor s degree params l r under few low high e (accepted b) q a p k m =
+fit-right t factor s degree params l r under few low high e (Err c) q a p k m = right-refused degree l r c a
+fit-right t factor s degree params l r under few low high e (Ok b) q a p k m =
     right-accepted degree l r (length params) few high b (from_stands factor s degree params (unmarked b) (call_from factor s degree params under (call_of t) low e b q)) a p k m
 
 by-tolerance : (t : Tolerance) (s : List Float) (degree : ℕ) (v : Metric) (l : Lent) (r : Answer) → length s ≤ 192 → LadderCall (call_of t) s degree v buffers l r
@@ -108,13 +106,13 @@ by-tolerance t s degree v l r few c =
         → l.knots ≡ handed_knots (checked w (fit_with v.factor s degree (fit_by (call_of t)) o)) buffers.knots
         → l.mults ≡ handed_mults (checked w (fit_with v.factor s degree (fit_by (call_of t)) o)) buffers.mults
         → Right r l (checked w (fit_with v.factor s degree (fit_by (call_of t)) o))
-    go (Stop q) e o u a p k m = right-refused degree l r q a
-    go Pass e none u a p k m = right-refused degree l r ConfusedPoints a
-    go Pass e (some params) u a p k m =
+    go (Err q) e o u a p k m = right-refused degree l r q a
+    go passes e none u a p k m = right-refused degree l r ConfusedPoints a
+    go passes e (some params) u a p k m =
         let g = checks_give (call_of t) s degree v buffers e in
         let long = params-long v (point_count s) (point_at s) params u in
         let under = count_under (call_of t) (point_count s) degree g.1 g.0.low in
-        let count = subst (λ (n : ℕ). count_verdict (call_of t) n degree ≡ Pass) (sym long) g.1 in
+        let count = subst (λ (n : ℕ). count_verdict (call_of t) n degree ≡ passes) (sym long) g.1 in
         fit-right t v.factor s degree params l r (omega arith) (omega arith) g.0.low g.0.high count (fit_by (call_of t) (ladder v.factor s degree params)) refl a p k m
 
 -- after the program's call the slices hold the text's fit

@@ -1,5 +1,5 @@
 -- The text that is printed for a judged text, with the points that were read. Definitions only.
-use Rattle.std.specs.Prelude.{ℕ, ◌*◌, ◌≤◌, ◌<◌, ◌≡◌, List, Float, length, take, replicate}
+use Rattle.std.specs.Prelude.{ℕ, ◌*◌, ◌≤◌, ◌<◌, ◌≡◌, List, Float, length, take, replicate, Ok, Err}
 use Rattle.std.specs.Float.{binary64}
 use Rattle.std.specs.Float.Ieee.{of_bits}
 use Rattle.places.specs.Places.{list_of}
@@ -8,15 +8,13 @@ use Rattle.bspline.specs.Refusals.{number_of}
 use Rattle.knots.specs.Parameters.{plain_metric}
 use Rattle.knots.specs.Knots.{distinct_knots, knot_at, multiplicity_at}
 use Rattle.tables.specs.Deviations.{unreadable}
-use Rattle.ladders.specs.declared.Answer.{Answer}
-use Rattle.ladders.specs.declared.Answer.TheVariants.{Fitted, Refused}
 use Rattle.checks.specs.declared.Call.{Call}
 use Rattle.checks.specs.declared.Call.TheVariants.{Interpolate, ApproximateWithin}
 use Rattle.fitting.specs.Within.{Marked}
 use Rattle.fitting.specs.Marks.{unmarked, mark_of}
 use Rattle.checks.specs.LadderChecks.{Lent, lent}
-use Rattle.making.specs.Results.{Result, refused, accepted}
-use Rattle.ladders.specs.Ladders.{result_of}
+use Rattle.making.specs.Results.{FitResult}
+use Rattle.ladders.specs.Ladders.{result_of, Answer}
 use Rattle.card_reader.specs.declared.Head.{Head}
 use Rattle.card_reader.specs.declared.Tolerance.{Tolerance}
 use Rattle.card_reader.specs.declared.Tolerance.TheVariants.{Without, Within}
@@ -42,9 +40,9 @@ fit_text a =
     let n = distinct_knots f.flat in
     answer_text (mark_of a) (unreadable f.distances) (list_of n (knot_at f.flat)) (list_of n (multiplicity_at f.flat)) f.poles
 
-unfoldable pub result_text : Result → List ℕ
-result_text (refused c) = refusal_text (number_of c)
-result_text (accepted a) = fit_text a
+unfoldable pub result_text : FitResult → List ℕ
+result_text (Err c) = refusal_text (number_of c)
+result_text (Ok a) = fit_text a
 
 -- the text of a ladder's fit, or of its refusal
 abbrev pub ladder_text : Head → List Float → List ℕ
@@ -65,10 +63,10 @@ pub record Answered (text out : List ℕ) : Type 0 where
 
 -- the text of an answer whose poles, knots and multiplicities stand at the front of the slices that it was handed out in
 unfoldable pub handed_text : Answer → List Float → List Float → List ℕ → List ℕ
-handed_text (Refused c) poles knots mults = refusal_text (number_of c)
-handed_text (Fitted f) poles knots mults = answer_text f.mark f.unreadable (take f.knots knots) (take f.knots mults) (take (3 * f.poles) poles)
+handed_text (Err c) poles knots mults = refusal_text (number_of c)
+handed_text (Ok f) poles knots mults = answer_text f.mark f.unreadable (take f.knots knots) (take f.knots mults) (take (3 * f.poles) poles)
 
 -- no more poles and knots than 64 points of degree 25 have
 abbrev pub FewIn : Answer → Type 0
-FewIn (Refused c) = Unit
-FewIn (Fitted f) = (f.poles ≤ 64) × (f.knots ≤ 90)
+FewIn (Err c) = Unit
+FewIn (Ok f) = (f.poles ≤ 64) × (f.knots ≤ 90)

@@ -1,15 +1,14 @@
 -- What a ladder that passes the checks has. Assumes nothing.
 use mathlib.Core.Path.{◌≡◌, sym, ap, ◌∙◌}
 use mathlib.Core.List.{List}
-use Prim.Native.Nat.{ℕ, ◌-◌, ◌*◌, ◌/◌, ◌<◌, ◌≤◌}
+use Prim.Native.Nat.{ℕ, ◌-◌, ◌*◌, ◌<◌, ◌≤◌}
 use native.Mathlib.Nat.{mul-le-mul}
 use native.Mathlib.Omega.{arith}
 use lib.ListN.{length}
 use lib.Ieee.{Float}
 use borrow.Author.Tests.{ltb-false, eqb-true, not-false}
 use Rattle.places.proofs.PlaceLaws.{or_false}
-use Rattle.bspline.specs.declared.Refusal.{Refusal}
-use Rattle.bspline.specs.Refusals.{◌next◌, factor_verdict, Verdict, passes}
+use Rattle.bspline.specs.Refusals.{passes}
 use Rattle.bspline.proofs.CheckLaws.{both_pass, test_fails}
 use Rattle.knots.specs.declared.Metric.{Metric}
 use Rattle.checks.specs.declared.Room.{Room}
@@ -17,8 +16,7 @@ use Rattle.checks.specs.declared.Aim.{Aim}
 use Rattle.checks.specs.declared.Aim.TheVariants.{Count, Within}
 use Rattle.checks.specs.declared.Call.{Call}
 use Rattle.checks.specs.declared.Call.TheVariants.{Interpolate, Approximate, ApproximateWithin, SearchSpread}
-use Rattle.checks.specs.LadderChecks.{Lent, point_count, shape_verdict, chosen_verdict, unchosen_verdict, aim_verdict, count_verdict, room_verdict, room_of, coordinates_verdict, ladder_verdict, ladder_checks, Shaped, Roomy}
-use Rattle.std.specs.Prelude.{Err}
+use Rattle.checks.specs.LadderChecks.{Lent, point_count, shape_verdict, chosen_verdict, unchosen_verdict, aim_verdict, count_verdict, room_verdict, room_of, ladder_verdict, ladder_checks, Shaped, Roomy}
 
 -- the work's length fits a number
 pub small : (p n : ℕ) → p ≤ 25 → n ≤ 1024 → 4 * p * n ≤ 102400

@@ -1,6 +1,5 @@
 -- What a grid that passes the checks has. Assumes nothing.
 use mathlib.Core.Path.{◌≡◌}
-use mathlib.Core.List.{List}
 use Prim.Native.Nat.{ℕ, ◌+◌, ◌-◌, ◌*◌, ◌≤◌}
 use native.Mathlib.Nat.{mul-le-mul}
 use native.Mathlib.Omega.{arith}
@@ -8,15 +7,13 @@ use lib.ListN.{length}
 use lib.Ieee.{Float}
 use borrow.Author.Tests.{ltb-false, eqb-true, not-false}
 use Rattle.places.proofs.PlaceLaws.{or_false}
-use Rattle.bspline.specs.Refusals.{◌next◌, factor_verdict, Verdict, passes}
+use Rattle.bspline.specs.Refusals.{passes}
 use Rattle.bspline.proofs.CheckLaws.{both_pass, test_fails}
 use Rattle.checks.proofs.CheckLaws.{unchosen_pass}
 use Rattle.checks.specs.declared.Shape.{Shape}
 use Rattle.checks.specs.declared.GridRoom.{GridRoom}
 use Rattle.checks.specs.declared.SurfaceCall.TheVariants.{ApproximateWithin}
-use Rattle.knots.specs.declared.Metric.{Metric}
-use Rattle.checks.specs.LadderChecks.{coordinates_verdict}
-use Rattle.checks.specs.GridChecks.{Grid, GridLent, grid_of, grid_room_of, grid_shape_verdict, grid_room_verdict, grid_checks, counts_verdict, GridShaped, GridRoomy}
+use Rattle.checks.specs.GridChecks.{Grid, grid_shape_verdict, grid_room_verdict, grid_checks, counts_verdict, GridShaped, GridRoomy}
 
 -- the numbers fit
 pub points-few : (rows cols : ℕ) → rows ≤ 64 → cols ≤ 64 → rows * cols ≤ 4096

@@ -1,6 +1,6 @@
 -- The parameters of a ladder that passes the checks never fall, and lie from 0 to 1 without a minus sign: running sums of steps never fall, and a sum times the rounded
 -- reciprocal of the last is at most 1. Assumes nothing.
-use mathlib.Core.Path.{◌≡◌, refl, sym, subst}
+use mathlib.Core.Path.{◌≡◌, refl, sym, subst, ◌∙◌}
 use mathlib.Core.List.{List}
 use mathlib.Core.Option.{none, some}
 use Prim.Native.Nat.{ℕ, ◌+◌, ◌-◌, ◌*◌, ◌^◌, ◌≤◌, ◌<◌}

@@ -2,7 +2,7 @@
 use Rattle.std.specs.Prelude.{Ok, Err, ℕ, ◌+◌, ◌-◌, ◌*◌, ◌/◌, ◌%◌, ◌≤◌, ◌≡◌, not, ◌||◌, List, eqb, ltb, length, replicate, Float}
 use Rattle.std.specs.List.{list_any}
 use Rattle.bspline.specs.declared.Refusal.TheVariants.{TooFewPoints, InvalidDegree, DegreeTooHigh, TooManyPoles, NotTriples, TooLarge, BufferTooShort, CoordinateOutOfRange}
-use Rattle.bspline.specs.Refusals.{stop_if, ◌next◌, outside, factor_verdict, Verdict, passes}
+use Rattle.bspline.specs.Refusals.{stop_if, ◌next◌, outside, factor_verdict, Verdict}
 use Rattle.knots.specs.declared.Metric.{Metric}
 use Rattle.checks.specs.declared.Room.{Room}
 use Rattle.checks.specs.declared.Aim.{Aim}

@@ -12,8 +12,6 @@ use Rattle.places.specs.Regions.{part, splice}
 use Rattle.places.proofs.RegionLaws.{length-splice, part-splice, take-splice}
 use Rattle.bspline.specs.declared.Refusal.{Refusal}
 use Rattle.bspline.specs.declared.Refusal.TheVariants.{ConfusedPoints}
-use Rattle.bspline.specs.declared.Verdict.{Verdict}
-use Rattle.bspline.specs.declared.Verdict.TheVariants.{Pass, Stop}
 use Rattle.knots.specs.declared.Metric.{Metric}
 use Rattle.knots.specs.Parameters.{shared_parameters}
 use Rattle.knots.specs.Lines.{lines_of}
@@ -23,28 +21,27 @@ use Rattle.tables.specs.Layout.{FillsTable}
 use Rattle.tables.proofs.KeptLaws.{kept-part}
 use Rattle.fitting.specs.declared.Job.{Job}
 use Rattle.making.specs.declared.Standing.{Standing}
-use Rattle.making.specs.declared.Made.{Made}
-use Rattle.making.specs.declared.Made.TheVariants.{Fails, Stands}
 use Rattle.fitting.specs.Marks.{unmarked}
 use Rattle.making.specs.Results.{fit_to}
 use Rattle.checks.specs.LadderChecks.{aim_verdict}
 use Rattle.fitting.specs.Jobs.{direction_of, HasJob}
-use Rattle.making.specs.Runs.{standing_in, made_in, HasSaved, StandsIn, Makes}
+use Rattle.making.specs.Runs.{standing_in, made_in, HasSaved, StandsIn, Makes, Made}
 use Rattle.bspline.proofs.CheckLaws.{both_pass}
 use Rattle.checks.proofs.CheckLaws.{aim-under}
 use Rattle.fitting.proofs.AttemptLaws.{fills, kept_filled, has_job-kept}
 use Rattle.checks.specs.declared.Shape.{Shape}
 use Rattle.checks.specs.declared.SurfaceCall.{SurfaceCall}
 use Rattle.checks.specs.declared.SurfaceCall.TheVariants.{Approximate, ApproximateWithin}
-use Rattle.grids.specs.declared.GridAnswer.{GridAnswer}
 use Rattle.checks.specs.GridChecks.{Grid, grid_of, grid_lent, grid_room_of, GridShaped, GridRoomy, counts_verdict}
-use Rattle.grids.specs.Grids.{grid_refused, u_parameters, v_parameters, along_u, fit_grid_by, grid_checked, grid_fit_with, grid_fit, HandsOutGrid, row_aim, column_aim, beside_rows}
+use Rattle.grids.specs.Grids.{grid_refused, u_parameters, v_parameters, along_u, fit_grid_by, grid_checked, grid_fit_with, grid_fit, HandsOutGrid, row_aim, column_aim, beside_rows, GridAnswer}
 use Rattle.grids.specs.GridRuns.{rows_job, columns_job, behind, u_params_in, v_params_in, rows_in, columns_over, rows_result, Passed, count_of, knots_of, HasBoth, HandsBoth}
 use Rattle.grids.proofs.GridRunLaws.{has-rows_job, has-rows_saved, has-columns_job, has-columns_saved, n-most, n-least, still-long, has_other, columns_direction, grid-same, hands_grid}
+use Rattle.std.specs.Prelude.{Ok, Err}
+use Rattle.bspline.specs.Refusals.{Verdict, passes}
 
 -- ---- both directions by their aims
 
-pub aims_pass : (call : SurfaceCall) (h : Shape) → counts_verdict call h ≡ Pass → (aim_verdict (column_aim call) h.rows h.u ≡ Pass) × (aim_verdict (row_aim call) h.cols h.v ≡ Pass)
+pub aims_pass : (call : SurfaceCall) (h : Shape) → counts_verdict call h ≡ passes → (aim_verdict (column_aim call) h.rows h.u ≡ passes) × (aim_verdict (row_aim call) h.cols h.v ≡ passes)
 unfolding counts_verdict aim_verdict column_aim row_aim
 aims_pass (Approximate m n) h e = both_pass _ _ e
 aims_pass (ApproximateWithin t) h e = both_pass _ _ e
@@ -52,7 +49,7 @@ aims_pass (ApproximateWithin t) h e = both_pass _ _ e
 -- ---- after the checks
 
 pub passed-given : (call : SurfaceCall) (points : List Float) (h : Shape) (work : List Float) (index : List ℕ) {poles u_flat u_knots v_flat v_knots : List Float} {u_mults v_mults : List ℕ} → GridShaped (length points) h
-    → GridRoomy h (grid_room_of (grid_lent poles u_flat u_knots u_mults v_flat v_knots v_mults work index)) → counts_verdict call h ≡ Pass → (work' : List Float) (index' : List ℕ) → length work' ≡ length work → length index' ≡ length index
+    → GridRoomy h (grid_room_of (grid_lent poles u_flat u_knots u_mults v_flat v_knots v_mults work index)) → counts_verdict call h ≡ passes → (work' : List Float) (index' : List ℕ) → length work' ≡ length work → length index' ≡ length index
     → Passed call points h (grid_lent poles u_flat u_knots u_mults v_flat v_knots v_mults work' index')
 passed-given call points h work index s r c work' index' e f =
     record {
@@ -83,7 +80,7 @@ module _ (factor : Float) (call : SurfaceCall) (points w : List Float) (index : 
   pub rows_has : HasJob (rows_job factor h) points w index
   rows_has = has-rows_job factor h points w index p.shaped p.room.for_work p.room.for_index v-under
 
-  pub rows_ready : HasJob (rows_job factor h) points w index × HasSaved (rows_job factor h) (behind (rows_job factor h)) w × (aim_verdict (row_aim call) h.cols h.v ≡ Pass)
+  pub rows_ready : HasJob (rows_job factor h) points w index × HasSaved (rows_job factor h) (behind (rows_job factor h)) w × (aim_verdict (row_aim call) h.cols h.v ≡ passes)
   rows_ready = (rows_has, has-rows_saved factor h points w index p.shaped p.room.for_work p.room.for_index, (aims_pass call h p.counts).1)
 
   pub params_fit : h.rows + h.cols ≤ length w
@@ -123,7 +120,7 @@ module _ (factor : Float) (call : SurfaceCall) (points w : List Float) (index : 
           has-columns_job factor h points w₂ index₂ p.shaped (omega (arith, p.room.for_work, same-work)) (omega (arith, p.room.for_index, same_index)) n few u-under
           (n-least factor h points w index rows_has x stood.few) (has_other factor h points w index rows_has x stood.few w₂ index₂ e f (omega (arith, p.shaped.whole)))
 
-      pub columns_ready : HasJob (columns_job factor h n) points w₂ index₂ × HasSaved (columns_job factor h n) (behind (columns_job factor h n)) w₂ × (aim_verdict (column_aim call) h.rows h.u ≡ Pass)
+      pub columns_ready : HasJob (columns_job factor h n) points w₂ index₂ × HasSaved (columns_job factor h n) (behind (columns_job factor h n)) w₂ × (aim_verdict (column_aim call) h.rows h.u ≡ passes)
       columns_ready = (
         columns_has,
         has-columns_saved factor h points w₂ index₂ p.shaped (omega (arith, p.room.for_work, same-work)) (omega (arith, p.room.for_index, same_index)) n few,
@@ -134,11 +131,11 @@ module _ (factor : Float) (call : SurfaceCall) (points w : List Float) (index : 
         columns_made : fit_to (column_aim call) (along_u factor points h (u_params_in h w) (v_params_in h w) (unmarked (rows_in factor h points w index x))) ≡ made_in r (standing_in (columns_job factor h n) points w₃ index₃)
         columns_made = sym (ap (fit_to (column_aim call)) (columns_direction factor h points w index rows_has x stood.few w₂ index₂ e f params_fit)) ∙ made.answer
 
-        pub columns_fail : (c : Refusal) → r ≡ Fails c → columns_over factor call h points w index x ≡ grid_refused c
+        pub columns_fail : (c : Refusal) → r ≡ Err c → columns_over factor call h points w index x ≡ grid_refused c
         unfolding made_in beside_rows
         columns_fail c z = ap (beside_rows (rows_in factor h points w index x)) (columns_made ∙ ap (λ (a : Made). made_in a (standing_in (columns_job factor h n) points w₃ index₃)) z)
 
-        module _ (y : Standing) (told : r ≡ Stands y) where
+        module _ (y : Standing) (told : r ≡ Ok y) where
           over : StandsIn (columns_job factor h n) points w₃ index₃ y
           over = made.standing y told
 
@@ -256,11 +253,11 @@ module _ (call : SurfaceCall) (points : List Float) (h : Shape) (v : Metric) whe
       unfolding grid_fit_with
       given_both = given_u ∙ ap (grid_fit_with (counts_verdict call h) (fit_grid_by call g) (some us)) f
 
-      pub counts_stop : (c : Refusal) → counts_verdict call h ≡ Stop c → grid_fit call g ≡ grid_refused c
+      pub counts_stop : (c : Refusal) → counts_verdict call h ≡ Err c → grid_fit call g ≡ grid_refused c
       unfolding grid_checked
       counts_stop c e = given_both ∙ ap (λ (a : Verdict). grid_checked a (fit_grid_by call g us vs)) e
 
-      pub counts_pass : (w : List Float) → counts_verdict call h ≡ Pass → us ≡ u_params_in h w → vs ≡ v_params_in h w → grid_fit call g ≡ rows_result v.factor call h points w
+      pub counts_pass : (w : List Float) → counts_verdict call h ≡ passes → us ≡ u_params_in h w → vs ≡ v_params_in h w → grid_fit call g ≡ rows_result v.factor call h points w
       unfolding grid_checked fit_grid_by
       counts_pass w e a b =
           given_both

@@ -20,25 +20,22 @@ use Rattle.tables.specs.Layout.{table_in, data_point, Kept}
 use Rattle.tables.proofs.KeptLaws.{kept-part, kept-behind}
 use Rattle.fitting.specs.declared.Fit.{Fit}
 use Rattle.making.specs.declared.Standing.{Standing}
-use Rattle.making.specs.declared.Made.{Made}
-use Rattle.making.specs.declared.Made.TheVariants.{Fails, Stands}
 use Rattle.fitting.specs.Within.{Candidate, Marked, candidate, pole_count}
 use Rattle.fitting.specs.Marks.{unmarked, mark_of, fit_of}
-use Rattle.making.specs.Results.{Result, fit_to}
+use Rattle.making.specs.Results.{FitResult, fit_to}
 use Rattle.fitting.specs.Jobs.{distances_by, deviations_by, within_by, direction_of, flat_region, poles_in, candidate_in, HasOther, HasJob, HasKnots}
-use Rattle.making.specs.Runs.{standing_in, made_in, HasSaved, StandsIn, Makes}
+use Rattle.making.specs.Runs.{standing_in, made_in, HasSaved, StandsIn, Makes, Made}
 use Rattle.fitting.specs.declared.Job.{Job}
 use Rattle.fitting.proofs.AttemptLaws.{pole-count, table_is, has-table, kept_filled}
 use Rattle.making.proofs.MakeLaws.{fit_same, unmarked_as, mark_as}
 use Rattle.checks.specs.declared.Shape.{Shape}
 use Rattle.checks.specs.declared.SurfaceCall.{SurfaceCall}
 use Rattle.grids.specs.declared.GridFit.{GridFit}
-use Rattle.grids.specs.declared.GridAnswer.{GridAnswer}
-use Rattle.grids.specs.declared.GridAnswer.TheVariants.{Fitted, Refused}
 use Rattle.checks.specs.GridChecks.{GridLent, grid_lent, GridShaped, work_length, index_length}
-use Rattle.grids.specs.Grids.{GridResult, grid_refused, grid_accepted, along_v, along_u, grid_answer_of, surface_poles, grid_handed, HandsOutGrid, row_aim, column_aim, beside_rows, after_rows}
+use Rattle.grids.specs.Grids.{GridResult, grid_refused, grid_accepted, along_v, along_u, grid_answer_of, surface_poles, grid_handed, HandsOutGrid, row_aim, column_aim, beside_rows, after_rows, GridAnswer}
 use Rattle.grids.specs.GridRuns.{rows_job, columns_job, behind, u_params_in, v_params_in, rows_in, columns_over, rows_result, count_of, knots_of, pole_places, direction_fit, HandsBoth}
 use Rattle.grids.proofs.SurfaceLaws.{length-transposed}
+use Rattle.std.specs.Prelude.{Ok, Err}
 
 -- ---- room
 
@@ -166,11 +163,11 @@ module _ (h : Shape) {poles u_flat u_knots v_flat v_knots : List Float} {u_mults
       (record { answer = x.answer; poles = x.poles; u_flat = x.u_flat; u_knots = x.u_knots; u_mults = x.u_mults; v_flat = x.v_flat; v_knots = x.v_knots; v_mults = x.v_mults })
 
   pub grid-refused : (fit : GridResult) (c : Refusal) → fit ≡ grid_refused c → (work work' : List Float) (index index' : List ℕ)
-      → HandsOutGrid h fit (grid_lent poles u_flat u_knots u_mults v_flat v_knots v_mults work index) (grid_lent poles u_flat u_knots u_mults v_flat v_knots v_mults work' index') (Refused c)
+      → HandsOutGrid h fit (grid_lent poles u_flat u_knots u_mults v_flat v_knots v_mults work index) (grid_lent poles u_flat u_knots u_mults v_flat v_knots v_mults work' index') (Err c)
   unfolding grid_answer_of grid_handed
   grid-refused fit c e work work' index index' =
       subst
-      (λ (f : GridResult). HandsOutGrid h f (grid_lent poles u_flat u_knots u_mults v_flat v_knots v_mults work index) (grid_lent poles u_flat u_knots u_mults v_flat v_knots v_mults work' index') (Refused c))
+      (λ (f : GridResult). HandsOutGrid h f (grid_lent poles u_flat u_knots u_mults v_flat v_knots v_mults work index) (grid_lent poles u_flat u_knots u_mults v_flat v_knots v_mults work' index') (Err c))
       (sym e) (record { answer = refl; poles = refl; u_flat = refl; u_knots = refl; u_mults = refl; v_flat = refl; v_knots = refl; v_mults = refl })
 
 -- ---- after the rows
@@ -180,18 +177,18 @@ module _ (factor : Float) (call : SurfaceCall) (h : Shape) (points w : List Floa
   rows_made : fit_to (row_aim call) (along_v factor points h (v_params_in h w)) ≡ made_in r (standing_in (rows_job factor h) points w₁ index₁)
   rows_made = sym (ap (fit_to (row_aim call)) (rows_direction factor h points w index long)) ∙ made.answer
 
-  abbrev next : List Float → Marked → Result
+  abbrev next : List Float → Marked → FitResult
   next v m = fit_to (column_aim call) (along_u factor points h (u_params_in h v) (v_params_in h v) (unmarked m))
 
-  pub rows_fail : (c : Refusal) → r ≡ Fails c → rows_result factor call h points w ≡ grid_refused c
+  pub rows_fail : (c : Refusal) → r ≡ Err c → rows_result factor call h points w ≡ grid_refused c
   unfolding made_in after_rows
-  rows_fail c e = ap (λ (v : Result). after_rows v (next w)) (rows_made ∙ ap (λ (x : Made). made_in x (standing_in (rows_job factor h) points w₁ index₁)) e)
+  rows_fail c e = ap (λ (v : FitResult). after_rows v (next w)) (rows_made ∙ ap (λ (x : Made). made_in x (standing_in (rows_job factor h) points w₁ index₁)) e)
 
-  pub rows_stand : (x : Standing) → r ≡ Stands x → rows_result factor call h points w ≡ columns_over factor call h points w₁ index₁ x
+  pub rows_stand : (x : Standing) → r ≡ Ok x → rows_result factor call h points w ≡ columns_over factor call h points w₁ index₁ x
   unfolding made_in after_rows
   rows_stand x e =
       let v : Marked = rows_in factor h points w₁ index₁ x in
-      ap (λ (y : Result). after_rows y (next w)) (rows_made ∙ ap (λ (y : Made). made_in y (standing_in (rows_job factor h) points w₁ index₁)) e)
+      ap (λ (y : FitResult). after_rows y (next w)) (rows_made ∙ ap (λ (y : Made). made_in y (standing_in (rows_job factor h) points w₁ index₁)) e)
       ∙ ap (λ (us : List Float). beside_rows v (fit_to (column_aim call) (along_u factor points h us (v_params_in h w) (unmarked v)))) (sym (u-kept h w w₁ (length w) made.kept))
       ∙ ap (λ (vs : List Float). beside_rows v (fit_to (column_aim call) (along_u factor points h (u_params_in h w₁) vs (unmarked v)))) (sym (v-kept h w w₁ (length w) made.kept))
 
@@ -362,7 +359,7 @@ module _ (factor : Float) (h : Shape) (points w : List Float) (index : List ℕ)
       record {
         answer =
             out.answer
-            ∙ ap Fitted
+            ∙ ap Ok
             (fits-same (direction_fit (columns_job factor h n) y w₃) (fit_of h.u u) (direction_fit (rows_job factor h) x w₃) (fit_of h.v v)
             (fit_is (columns_job factor h n) points w₃ index₃ columns_has y over w₃ refl) (fit_is (rows_job factor h) points w index rows_has x stood w₃ same));
         poles =

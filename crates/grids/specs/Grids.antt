@@ -1,5 +1,5 @@
 -- The grid calls: their refusals, answers, and each place of each lent slice at exit. Definitions only.
-use Rattle.std.specs.Prelude.{ℕ, ◌+◌, ◌-◌, ◌*◌, ◌≡◌, true, List, length, take, Float}
+use Rattle.std.specs.Prelude.{ℕ, ◌+◌, ◌-◌, ◌*◌, ◌≡◌, true, List, length, take, Float, Ok, Err}
 use Rattle.std.proofs.Math.Option.{Option, none, some}
 use Rattle.std.specs.Float.{binary64}
 use Rattle.std.specs.Float.Ieee.{of_bits}
@@ -7,9 +7,7 @@ use Rattle.places.specs.Places.{laid}
 use Rattle.geometry.specs.Doubles.{◌⊗◌, nought, at}
 use Rattle.bspline.specs.declared.Refusal.{Refusal}
 use Rattle.bspline.specs.declared.Refusal.TheVariants.{ConfusedPoints}
-use Rattle.bspline.specs.declared.Verdict.{Verdict}
-use Rattle.bspline.specs.declared.Verdict.TheVariants.{Pass, Stop}
-use Rattle.bspline.specs.Refusals.{number_of}
+use Rattle.bspline.specs.Refusals.{number_of, Verdict, passes}
 use Rattle.knots.specs.Parameters.{shared_parameters}
 use Rattle.knots.specs.Knots.{distinct_knots, knot_at, multiplicity_at}
 use Rattle.tables.specs.BasisTable.{basis_table}
@@ -24,10 +22,8 @@ use Rattle.checks.specs.LadderChecks.{cleared}
 use Rattle.checks.specs.declared.Shape.{Shape}
 use Rattle.checks.specs.declared.Aim.{Aim}
 use Rattle.checks.specs.declared.Aim.TheVariants.{Count, Within}
-use Rattle.making.specs.Results.{Result, refused, accepted, fit_to}
+use Rattle.making.specs.Results.{FitResult, fit_to}
 use Rattle.grids.specs.declared.GridFit.{GridFit}
-use Rattle.grids.specs.declared.GridAnswer.{GridAnswer}
-use Rattle.grids.specs.declared.GridAnswer.TheVariants.{Fitted, Refused}
 use Rattle.checks.specs.declared.SurfaceCall.{SurfaceCall}
 use Rattle.checks.specs.declared.SurfaceCall.TheVariants.{Approximate, ApproximateWithin}
 
@@ -67,13 +63,13 @@ column_aim (Approximate uCount vCount) = Count uCount
 column_aim (ApproximateWithin t) = Within t
 
 -- the columns' fit beside the rows', and before it the rows'
-unfoldable pub beside_rows : Marked → Result → GridResult
-beside_rows v (refused c) = grid_refused c
-beside_rows v (accepted u) = grid_accepted u v
+unfoldable pub beside_rows : Marked → FitResult → GridResult
+beside_rows v (Err c) = grid_refused c
+beside_rows v (Ok u) = grid_accepted u v
 
-unfoldable pub after_rows : Result → (Marked → Result) → GridResult
-after_rows (refused c) next = grid_refused c
-after_rows (accepted v) next = beside_rows v (next v)
+unfoldable pub after_rows : FitResult → (Marked → FitResult) → GridResult
+after_rows (Err c) next = grid_refused c
+after_rows (Ok v) next = beside_rows v (next v)
 
 -- the two calls, on a grid with its parameters along u and along v: the rows along v, then the columns of the row poles along u
 unfoldable pub fit_grid_by : SurfaceCall → Grid → List Float → List Float → GridResult
@@ -87,8 +83,8 @@ rows_within g t v_params = fit_within_fewest (along_v g.metric.factor g.points g
 
 -- checks, and then the rest
 unfoldable pub grid_checked : Verdict → GridResult → GridResult
-grid_checked Pass r = r
-grid_checked (Stop c) r = grid_refused c
+grid_checked (Ok p) r = r
+grid_checked (Err c) r = grid_refused c
 
 -- with both directions' parameters, or 5; then 3 and 4; then the fit
 unfoldable pub grid_fit_with : Verdict → (List Float → List Float → GridResult) → Option (List Float) → Option (List Float) → GridResult
@@ -106,15 +102,14 @@ grid_result_of call g l = grid_checked (grid_checks g (grid_room_of l)) (grid_fi
 -- ---- what is handed back
 
 -- the answer
+abbrev pub GridAnswer : Type 0
+GridAnswer = Result GridFit Refusal
+
 unfoldable pub grid_answer_of : Shape → GridResult → GridAnswer
-grid_answer_of h (grid_refused c) = Refused c
-grid_answer_of h (grid_accepted u v) = Fitted (record { u = fit_of h.u u; v = fit_of h.v v })
+grid_answer_of h (grid_refused c) = Err c
+grid_answer_of h (grid_accepted u v) = Ok (record { u = fit_of h.u u; v = fit_of h.v v })
 
--- document 01's number of an answer and of a result: 0 where it is a fit
-unfoldable pub grid_answer_number : GridAnswer → ℕ
-grid_answer_number (Fitted f) = 0
-grid_answer_number (Refused c) = number_of c
-
+-- document 01's number of a result: 0 where it is a fit
 unfoldable pub grid_result_number : GridResult → ℕ
 grid_result_number (grid_accepted u v) = 0
 grid_result_number (grid_refused c) = number_of c
@@ -142,7 +137,7 @@ pub record HandsOutGrid (h : Shape) (fit : GridResult) (l l' : GridLent) (r : Gr
 -- The contract of a grid call.
 pub record GridCall (call : SurfaceCall) (g : Grid) (l l' : GridLent) (r : GridAnswer) : Type 0 where
   pub hands : HandsOutGrid g.shape (grid_result_of call g l) l l' r
-  pub number : grid_answer_number r ≡ grid_result_number (grid_result_of call g l)
+  pub number : number_in r ≡ grid_result_number (grid_result_of call g l)
   pub work : l'.work ≡ cleared nought (grid_checks g (grid_room_of l)) l.work
   pub index : l'.index ≡ cleared 0 (grid_checks g (grid_room_of l)) l.index
 
@@ -168,10 +163,10 @@ module _ (g : Grid) (t : Float) where
   u_direction = along_u g.metric.factor g.points g.shape u_params v_params (unmarked (rows_within g t v_params))
 
   pub record GridKept (l' : GridLent) (r : GridAnswer) : Type 0 where
-    pub refined_within : (f : GridFit) (x : Float) → r ≡ Fitted f → f.u.mark ≡ Refined x → NoneAbove t (grid_handed_distances f l')
-    pub spread_within : (f : GridFit) (x : Float) → r ≡ Fitted f → f.u.mark ≡ Spread x → NoneAbove t (grid_handed_distances f l')
-    pub spread_passes : (f : GridFit) (x : Float) → r ≡ Fitted f → f.u.mark ≡ Spread x → passes_on_spread u_direction t f.u.poles ≡ true
-    pub one_below_fails : (f : GridFit) (x : Float) → r ≡ Fitted f → f.u.mark ≡ Spread x → Fails u_direction t (f.u.poles - 1)
+    pub refined_within : (f : GridFit) (x : Float) → r ≡ Ok f → f.u.mark ≡ Refined x → NoneAbove t (grid_handed_distances f l')
+    pub spread_within : (f : GridFit) (x : Float) → r ≡ Ok f → f.u.mark ≡ Spread x → NoneAbove t (grid_handed_distances f l')
+    pub spread_passes : (f : GridFit) (x : Float) → r ≡ Ok f → f.u.mark ≡ Spread x → passes_on_spread u_direction t f.u.poles ≡ true
+    pub one_below_fails : (f : GridFit) (x : Float) → r ≡ Ok f → f.u.mark ≡ Spread x → Fails u_direction t (f.u.poles - 1)
 
 -- ---- the contracts
 

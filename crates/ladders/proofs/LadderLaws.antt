@@ -13,8 +13,6 @@ use Rattle.geometry.specs.Doubles.{◌⊗◌, ◌⊘◌, one, at, largest}
 use Rattle.geometry.specs.Points.{point_at}
 use Rattle.bspline.specs.declared.Refusal.{Refusal}
 use Rattle.bspline.specs.declared.Refusal.TheVariants.{ConfusedPoints}
-use Rattle.bspline.specs.declared.Verdict.{Verdict}
-use Rattle.bspline.specs.declared.Verdict.TheVariants.{Pass, Stop}
 use Rattle.knots.specs.declared.Metric.{Metric}
 use Rattle.knots.specs.Parameters.{confusion, chords, step_sums, from_zero_to_one, point_parameters}
 use Rattle.knots.proofs.ParameterLaws.{unless-some, length-zero_to-one}
@@ -23,19 +21,19 @@ use Rattle.tables.specs.Deviations.{ladder_distances}
 use Rattle.tables.specs.Directions.{Direction, ladder}
 use Rattle.fitting.specs.declared.Mark.TheVariants.{Refined, Spread, Interpolated}
 use Rattle.fitting.specs.declared.Fit.{Fit}
-use Rattle.ladders.specs.declared.Answer.{Answer}
-use Rattle.ladders.specs.declared.Answer.TheVariants.{Fitted, Refused}
 use Rattle.fitting.specs.Within.{Candidate, Marked, refined, spread, pole_count, fit_with_refined_knots, refined_or, fit_within, spread_alone, passes_on_spread}
 use Rattle.fitting.specs.Marks.{unmarked, mark_of, fit_of}
 use Rattle.fitting.specs.Tolerance.{NoneAbove, Fails, KeepsTolerance, params_or}
 use Rattle.checks.proofs.CheckLaws.{checks_give, count_under}
 use Rattle.checks.specs.declared.Call.{Call}
 use Rattle.checks.specs.declared.Call.TheVariants.{ApproximateWithin, SearchSpread}
-use Rattle.checks.specs.LadderChecks.{Lent, point_count, count_verdict, ladder_checks, room_of, Roomy}
-use Rattle.making.specs.Results.{Result, accepted, fit_by}
-use Rattle.ladders.specs.Ladders.{ladder_fit, fit_with, checked, result_of, answer_of, handed, handed_flat, handed_poles, ladder_of, HandsOut, LadderCall, LadderKept, ApproximatesWithin, SearchesSpread, SpreadNeverMorePoles}
+use Rattle.checks.specs.LadderChecks.{ladder_verdict, Lent, point_count, count_verdict, ladder_checks, room_of, Roomy}
+use Rattle.making.specs.Results.{FitResult, fit_by}
+use Rattle.ladders.specs.Ladders.{ladder_fit, fit_with, result_of, answer_of, handed, handed_flat, handed_poles, ladder_of, HandsOut, LadderCall, LadderKept, ApproximatesWithin, SearchesSpread, SpreadNeverMorePoles, Answer}
 use Rattle.fitting.proofs.ToleranceLaws.{Lawful, ladder_lawful, alone-kept, within-kept, poles_of, no_more, spread_again}
 use Rattle.making.proofs.HandedLaws.{From, taken, refined_from, refined_mark, spread_mark, interpolated_mark, alone_cases}
+use Rattle.std.specs.Prelude.{Ok, Err}
+use Rattle.bspline.specs.Refusals.{Verdict, passes, ◌next◌}
 
 -- as many parameters as points
 pub params-long : (v : Metric) (n : ℕ) (point : ℕ → Point) (params : List Float) → point_parameters v n point ≡ some params → length params ≡ n
@@ -48,12 +46,12 @@ params-long v n point params e =
 
 -- `LadderKept`, over the direction and the distances that it speaks of
 record LadderKeptBy (d : Direction) (distances : Fit → List Float) (refinement : Option Candidate) (t : Float) (n : ℕ) (r : Answer) : Type 0 where
-  refined_within : (f : Fit) (x : Float) → r ≡ Fitted f → f.mark ≡ Refined x → NoneAbove t (distances f)
-  spread_within : (f : Fit) (x : Float) → r ≡ Fitted f → f.mark ≡ Spread x → NoneAbove t (distances f)
-  spread_passes : (f : Fit) (x : Float) → r ≡ Fitted f → f.mark ≡ Spread x → passes_on_spread d t f.poles ≡ true
-  one_below_fails : (f : Fit) (x : Float) → r ≡ Fitted f → f.mark ≡ Spread x → Fails d t (f.poles - 1)
-  interpolated_stuck : (f : Fit) (x : Float) → r ≡ Fitted f → f.mark ≡ Interpolated x → refinement ≡ none
-  interpolated_last : (f : Fit) (x : Float) → r ≡ Fitted f → f.mark ≡ Interpolated x → Fails d t (n - 1)
+  refined_within : (f : Fit) (x : Float) → r ≡ Ok f → f.mark ≡ Refined x → NoneAbove t (distances f)
+  spread_within : (f : Fit) (x : Float) → r ≡ Ok f → f.mark ≡ Spread x → NoneAbove t (distances f)
+  spread_passes : (f : Fit) (x : Float) → r ≡ Ok f → f.mark ≡ Spread x → passes_on_spread d t f.poles ≡ true
+  one_below_fails : (f : Fit) (x : Float) → r ≡ Ok f → f.mark ≡ Spread x → Fails d t (f.poles - 1)
+  interpolated_stuck : (f : Fit) (x : Float) → r ≡ Ok f → f.mark ≡ Interpolated x → refinement ≡ none
+  interpolated_last : (f : Fit) (x : Float) → r ≡ Ok f → f.mark ≡ Interpolated x → Fails d t (n - 1)
 
 -- what a way to fit a ladder within a tolerance keeps
 pub record Keeps (t : Float) (refinement : Direction → Option Candidate) (fit : Direction → Marked) : Type 0 where
@@ -62,38 +60,38 @@ pub record Keeps (t : Float) (refinement : Direction → Option Candidate) (fit 
   pub from-spread : (d : Direction) → Lawful d → (c : ℕ) (f : Candidate) → fit d ≡ spread c f → From d f × (pole_count d.degree f.flat ≡ c)
 
 -- what the definitions say of each way through
-stopped : (c : Refusal) (x : Result) (r : Answer) (degree : ℕ) → r ≡ answer_of degree (checked (Stop c) x) → r ≡ Refused c
-unfolding checked answer_of
+stopped : (c : Refusal) (x : FitResult) (r : Answer) (degree : ℕ) → r ≡ answer_of degree (Err c next x) → r ≡ Err c
+unfolding answer_of
 stopped c x r degree e = e
 
-confused : (factor : Float) (s : List Float) (degree : ℕ) (fit : Direction → Result) (r : Answer) → r ≡ answer_of degree (checked Pass (fit_with factor s degree fit none)) → r ≡ Refused ConfusedPoints
-unfolding checked answer_of fit_with
+confused : (factor : Float) (s : List Float) (degree : ℕ) (fit : Direction → FitResult) (r : Answer) → r ≡ answer_of degree (passes next (fit_with factor s degree fit none)) → r ≡ Err ConfusedPoints
+unfolding answer_of fit_with
 confused factor s degree fit r e = e
 
-module _ (call : Call) (fit : Direction → Marked) (by : (d : Direction) → fit_by call d ≡ accepted (fit d)) (factor : Float) (s : List Float) (degree : ℕ) (params : List Float) where
-  result_is : checked Pass (fit_with factor s degree (fit_by call) (some params)) ≡ accepted (fit (ladder factor s degree params))
-  unfolding checked fit_with
+module _ (call : Call) (fit : Direction → Marked) (by : (d : Direction) → fit_by call d ≡ Ok (fit d)) (factor : Float) (s : List Float) (degree : ℕ) (params : List Float) where
+  result_is : passes next (fit_with factor s degree (fit_by call) (some params)) ≡ Ok (fit (ladder factor s degree params))
+  unfolding fit_with
   result_is = by (ladder factor s degree params)
 
-  accepted-answer : (r : Answer) → r ≡ answer_of degree (checked Pass (fit_with factor s degree (fit_by call) (some params))) → r ≡ Fitted (fit_of degree (fit (ladder factor s degree params)))
+  accepted-answer : (r : Answer) → r ≡ answer_of degree (passes next (fit_with factor s degree (fit_by call) (some params))) → r ≡ Ok (fit_of degree (fit (ladder factor s degree params)))
   unfolding answer_of
   accepted-answer r e = e ∙ ap (answer_of degree) result_is
 
-  accepted-flat : (xs ys : List Float) → xs ≡ handed_flat (checked Pass (fit_with factor s degree (fit_by call) (some params))) ys
+  accepted-flat : (xs ys : List Float) → xs ≡ handed_flat (passes next (fit_with factor s degree (fit_by call) (some params))) ys
       → xs ≡ laid 0 (length (unmarked (fit (ladder factor s degree params))).flat) (at (unmarked (fit (ladder factor s degree params))).flat) ys
   unfolding handed
-  accepted-flat xs ys e = e ∙ ap (λ (x : Result). handed_flat x ys) result_is
+  accepted-flat xs ys e = e ∙ ap (λ (x : FitResult). handed_flat x ys) result_is
 
-  accepted-poles : (xs ys : List Float) → xs ≡ handed_poles (checked Pass (fit_with factor s degree (fit_by call) (some params))) ys
+  accepted-poles : (xs ys : List Float) → xs ≡ handed_poles (passes next (fit_with factor s degree (fit_by call) (some params))) ys
       → xs ≡ laid 0 (length (unmarked (fit (ladder factor s degree params))).poles) (at (unmarked (fit (ladder factor s degree params))).poles) ys
   unfolding handed
-  accepted-poles xs ys e = e ∙ ap (λ (x : Result). handed_poles x ys) result_is
+  accepted-poles xs ys e = e ∙ ap (λ (x : FitResult). handed_poles x ys) result_is
 
 module _ (v : Metric) (s : List Float) (degree : ℕ) (l l' : Lent) (r : Answer) (t : Float)
     (refinement : Direction → Option Candidate) (fit : Direction → Marked) (keeps : Keeps t refinement fit) where
-  -- an accepted ladder: its parameters are there
+  -- an Ok ladder: its parameters are there
   module _ (params : List Float) (n : length params ≡ point_count s) (under : degree + 1 ≤ point_count s) (room : Roomy (point_count s) degree (room_of l))
-      (answer : r ≡ Fitted (fit_of degree (fit (ladder v.factor s degree params))))
+      (answer : r ≡ Ok (fit_of degree (fit (ladder v.factor s degree params))))
       (flat : l'.flat ≡ laid 0 (length (unmarked (fit (ladder v.factor s degree params))).flat) (at (unmarked (fit (ladder v.factor s degree params))).flat) l.flat)
       (poles : l'.poles ≡ laid 0 (length (unmarked (fit (ladder v.factor s degree params))).poles) (at (unmarked (fit (ladder v.factor s degree params))).poles) l.poles) where
     distances_of : Fit → List Float
@@ -150,7 +148,7 @@ module _ (v : Metric) (s : List Float) (degree : ℕ) (l l' : Lent) (r : Answer)
 
   -- the same in the contract's words
   accepted-kept : (params : List Float) → point_parameters v (point_count s) (point_at s) ≡ some params → degree + 1 ≤ point_count s → Roomy (point_count s) degree (room_of l)
-      → r ≡ Fitted (fit_of degree (fit (ladder v.factor s degree params)))
+      → r ≡ Ok (fit_of degree (fit (ladder v.factor s degree params)))
       → l'.flat ≡ laid 0 (length (unmarked (fit (ladder v.factor s degree params))).flat) (at (unmarked (fit (ladder v.factor s degree params))).flat) l.flat
       → l'.poles ≡ laid 0 (length (unmarked (fit (ladder v.factor s degree params))).poles) (at (unmarked (fit (ladder v.factor s degree params))).poles) l.poles
       → LadderKept v s degree t (refinement (ladder_of v s degree)) l' r
@@ -167,7 +165,7 @@ module _ (v : Metric) (s : List Float) (degree : ℕ) (l l' : Lent) (r : Answer)
         interpolated_last = λ f x e m. rw q (k.interpolated_last f x e m);
       }
 
-  refused-kept : (c : Refusal) → r ≡ Refused c → LadderKept v s degree t (refinement (ladder_of v s degree)) l' r
+  refused-kept : (c : Refusal) → r ≡ Err c → LadderKept v s degree t (refinement (ladder_of v s degree)) l' r
   refused-kept c e =
       record {
         refined_within = λ f x q m. let z : ◌≡◌ {A = ℕ} 0 1 = cc in absurd (omega arith);
@@ -179,19 +177,19 @@ module _ (v : Metric) (s : List Float) (degree : ℕ) (l l' : Lent) (r : Answer)
       }
 
   -- who hands a call's result out keeps demand 3. The slices that the call was judged by are m: those that were lent, or none.
-  pub kept_by-hands : (call : Call) (m : Lent) → ((d : Direction) → fit_by call d ≡ accepted (fit d)) → (ladder_checks call s degree v m ≡ Pass → ladder_checks call s degree v l ≡ Pass)
+  pub kept_by-hands : (call : Call) (m : Lent) → ((d : Direction) → fit_by call d ≡ Ok (fit d)) → (ladder_checks call s degree v m ≡ passes → ladder_checks call s degree v l ≡ passes)
       → HandsOut degree (result_of call s degree v m) l l' r → LadderKept v s degree t (refinement (ladder_of v s degree)) l' r
   unfolding ladder_fit result_of
   kept_by-hands call m by lends h = go (ladder_checks call s degree v m) refl (point_parameters v (point_count s) (point_at s)) refl h.answer h.flat h.poles
     where
       go : (w : Verdict) → ladder_checks call s degree v m ≡ w → (o : Option (List Float)) → point_parameters v (point_count s) (point_at s) ≡ o
-          → r ≡ answer_of degree (checked w (fit_with v.factor s degree (fit_by call) o))
-          → l'.flat ≡ handed_flat (checked w (fit_with v.factor s degree (fit_by call) o)) l.flat
-          → l'.poles ≡ handed_poles (checked w (fit_with v.factor s degree (fit_by call) o)) l.poles
+          → r ≡ answer_of degree (w next (fit_with v.factor s degree (fit_by call) o))
+          → l'.flat ≡ handed_flat (w next (fit_with v.factor s degree (fit_by call) o)) l.flat
+          → l'.poles ≡ handed_poles (w next (fit_with v.factor s degree (fit_by call) o)) l.poles
           → LadderKept v s degree t (refinement (ladder_of v s degree)) l' r
-      go (Stop c) e o p a f q = refused-kept c (stopped c (fit_with v.factor s degree (fit_by call) o) r degree a)
-      go Pass e none p a f q = refused-kept _ (confused v.factor s degree (fit_by call) r a)
-      go Pass e (some params) p a f q =
+      go (Err c) e o p a f q = refused-kept c (stopped c (fit_with v.factor s degree (fit_by call) o) r degree a)
+      go (Ok p₀) e none p a f q = refused-kept _ (confused v.factor s degree (fit_by call) r a)
+      go (Ok p₀) e (some params) p a f q =
           let g = checks_give call s degree v l (lends e) in
           accepted-kept params p (omega (arith, count_under call (point_count s) degree g.1 g.0.low)) g.2 (accepted-answer call fit by v.factor s degree params r a) (accepted-flat call fit by v.factor s degree params l'.flat l.flat f)
           (accepted-poles call fit by v.factor s degree params l'.poles l.poles q)
@@ -244,12 +242,12 @@ keeps-within t =
 
 -- Demand 3 needs no proof of the program: it follows from the call's equations.
 module _ (s : List Float) (degree : ℕ) (t : Float) (v : Metric) (l l' : Lent) (r : Answer) where
-  pub within-handed : (m : Lent) → (ladder_checks (ApproximateWithin t) s degree v m ≡ Pass → ladder_checks (ApproximateWithin t) s degree v l ≡ Pass)
+  pub within-handed : (m : Lent) → (ladder_checks (ApproximateWithin t) s degree v m ≡ passes → ladder_checks (ApproximateWithin t) s degree v l ≡ passes)
       → HandsOut degree (result_of (ApproximateWithin t) s degree v m) l l' r → LadderKept v s degree t (fit_with_refined_knots (ladder_of v s degree) t) l' r
   unfolding fit_by
   within-handed m = kept_by-hands v s degree l l' r t (λ d. fit_with_refined_knots d t) (λ d. fit_within d t) (keeps-within t) (ApproximateWithin t) m (λ d. refl)
 
-  pub spread-handed : (m : Lent) → (ladder_checks (SearchSpread t) s degree v m ≡ Pass → ladder_checks (SearchSpread t) s degree v l ≡ Pass)
+  pub spread-handed : (m : Lent) → (ladder_checks (SearchSpread t) s degree v m ≡ passes → ladder_checks (SearchSpread t) s degree v l ≡ passes)
       → HandsOut degree (result_of (SearchSpread t) s degree v m) l l' r → LadderKept v s degree t none l' r
   unfolding fit_by
   spread-handed m = kept_by-hands v s degree l l' r t (λ d. none) (λ d. spread_alone d t) (keeps_alone t) (SearchSpread t) m (λ d. refl)
@@ -261,13 +259,13 @@ module _ (s : List Float) (degree : ℕ) (t : Float) (v : Metric) (l l' : Lent) 
   searches-spread c = record { call = c; kept = spread-handed l (λ e. e) c.hands }
 
 -- ---- two calls of the spread search alone
-spread-answer : (factor : Float) (s : List Float) (degree : ℕ) (params : List Float) (t : Float) (r : Answer) → r ≡ answer_of degree (checked Pass (fit_with factor s degree (fit_by (SearchSpread t)) (some params))) → r ≡ Fitted (fit_of degree (spread_alone (ladder factor s degree params) t))
+spread-answer : (factor : Float) (s : List Float) (degree : ℕ) (params : List Float) (t : Float) (r : Answer) → r ≡ answer_of degree (passes next (fit_with factor s degree (fit_by (SearchSpread t)) (some params))) → r ≡ Ok (fit_of degree (spread_alone (ladder factor s degree params) t))
 unfolding fit_by
 spread-answer factor s degree params t r e = accepted-answer (SearchSpread t) (λ d. spread_alone d t) (λ d. refl) factor s degree params r e
 
-fits_again : (factor : Float) (s : List Float) (degree : ℕ) (params : List Float) (t t' : Float) (r₁ r₂ : Answer) (f₁ : Fit) → le t t' ≡ true → r₁ ≡ Fitted f₁
-    → r₁ ≡ Fitted (fit_of degree (spread_alone (ladder factor s degree params) t)) → r₂ ≡ Fitted (fit_of degree (spread_alone (ladder factor s degree params) t'))
-    → (f₂ : Fit) × ((r₂ ≡ Fitted f₂) × ((f₂.poles ≤ f₁.poles) × ((x : Float) → f₁.mark ≡ Spread x → (y : Float) × (f₂.mark ≡ Spread y))))
+fits_again : (factor : Float) (s : List Float) (degree : ℕ) (params : List Float) (t t' : Float) (r₁ r₂ : Answer) (f₁ : Fit) → le t t' ≡ true → r₁ ≡ Ok f₁
+    → r₁ ≡ Ok (fit_of degree (spread_alone (ladder factor s degree params) t)) → r₂ ≡ Ok (fit_of degree (spread_alone (ladder factor s degree params) t'))
+    → (f₂ : Fit) × ((r₂ ≡ Ok f₂) × ((f₂.poles ≤ f₁.poles) × ((x : Float) → f₁.mark ≡ Spread x → (y : Float) × (f₂.mark ≡ Spread y))))
 unfolding fit_of ladder mark_of
 fits_again factor s degree params t t' r₁ r₂ f₁ h e a b =
     let d = ladder factor s degree params in
@@ -287,15 +285,15 @@ fits_again factor s degree params t t' r₁ r₂ f₁ h e a b =
 
 -- the second half of demand 3, of two calls
 pub spread_never-more : SpreadNeverMorePoles
-unfolding ladder_fit result_of ladder_checks count_verdict
+unfolding ladder_fit result_of ladder_verdict count_verdict
 spread_never-more s degree v t t' l l₁ l₂ r₁ r₂ f₁ c₁ c₂ h e =
     go (ladder_checks (SearchSpread t) s degree v l) (point_parameters v (point_count s) (point_at s)) c₁.call.hands.answer c₂.call.hands.answer
   where
-    refusal : (c : Refusal) → r₁ ≡ Refused c → ⊥
+    refusal : (c : Refusal) → r₁ ≡ Err c → ⊥
     refusal c q = let z : ◌≡◌ {A = ℕ} 0 1 = cc in omega arith
 
-    go : (w : Verdict) (o : Option (List Float)) → r₁ ≡ answer_of degree (checked w (fit_with v.factor s degree (fit_by (SearchSpread t)) o)) → r₂ ≡ answer_of degree (checked w (fit_with v.factor s degree (fit_by (SearchSpread t')) o))
-        → (f₂ : Fit) × ((r₂ ≡ Fitted f₂) × ((f₂.poles ≤ f₁.poles) × ((x : Float) → f₁.mark ≡ Spread x → (y : Float) × (f₂.mark ≡ Spread y))))
-    go (Stop c) o a b = absurd (refusal c (stopped c (fit_with v.factor s degree (fit_by (SearchSpread t)) o) r₁ degree a))
-    go Pass none a b = absurd (refusal _ (confused v.factor s degree (fit_by (SearchSpread t)) r₁ a))
-    go Pass (some params) a b = fits_again v.factor s degree params t t' r₁ r₂ f₁ h e (spread-answer v.factor s degree params t r₁ a) (spread-answer v.factor s degree params t' r₂ b)
+    go : (w : Verdict) (o : Option (List Float)) → r₁ ≡ answer_of degree (w next (fit_with v.factor s degree (fit_by (SearchSpread t)) o)) → r₂ ≡ answer_of degree (w next (fit_with v.factor s degree (fit_by (SearchSpread t')) o))
+        → (f₂ : Fit) × ((r₂ ≡ Ok f₂) × ((f₂.poles ≤ f₁.poles) × ((x : Float) → f₁.mark ≡ Spread x → (y : Float) × (f₂.mark ≡ Spread y))))
+    go (Err c) o a b = absurd (refusal c (stopped c (fit_with v.factor s degree (fit_by (SearchSpread t)) o) r₁ degree a))
+    go (Ok p₀) none a b = absurd (refusal _ (confused v.factor s degree (fit_by (SearchSpread t)) r₁ a))
+    go (Ok p₀) (some params) a b = fits_again v.factor s degree params t t' r₁ r₂ f₁ h e (spread-answer v.factor s degree params t r₁ a) (spread-answer v.factor s degree params t' r₂ b)

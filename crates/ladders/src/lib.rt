@@ -2,26 +2,19 @@
 #![tactic(auto)]
 
 ghost use Rattle.std.specs.Prelude.{◌≡◌, ◌-◌, ◌*◌, ◌/◌, ◌≤◌, length};
-ghost use Rattle.bspline.specs.declared.Verdict.TheVariants.{Pass};
+ghost use Rattle.bspline.specs.Refusals.{passes};
 ghost use Rattle.checks.specs.LadderChecks.{Roomy, Shaped, lent, room_of, count_verdict};
 ghost use Rattle.making.specs.Results.{fit_by};
 ghost use Rattle.ladders.specs.Ladders.{ladder_fit, HandsOut, LadderCall, Interpolates, Approximates, ApproximatesWithin, SearchesSpread};
 ghost use Rattle.fitting.specs.Jobs.{HasJob, direction_of};
 ghost use Rattle.ladders.specs.LadderJob.{ladder_job};
 
-use bspline::{Refusal, Verdict};
+use bspline::Refusal;
+use checks::ladder::check_ladder;
 use checks::{Call, Room};
 use fitting::{Fit, Job};
 use knots::Metric;
-use making::Made;
 use tables::{Data, Table};
-
-// What a ladder call answers: a fit's mark and counts, with its knots and poles in the lent slices, or the refusal.
-#[derive(Clone, Copy)]
-pub enum Answer {
-    Fitted(Fit),
-    Refused(Refusal),
-}
 
 // The regions of n points of a degree, and the lightness factor.
 fn ladder_job(n: usize, degree: usize, factor: f64) -> Job
@@ -75,30 +68,25 @@ fn hand_made(
     mults: &mut [u32],
     work: &mut [f64],
     index: &mut [usize],
-) -> Answer
-    requires has_job { HasJob job points.now work.old index.old × (count_verdict call job.table.count job.table.degree ≡ Pass) × (job.given.lines ≡ 1) }
+) -> Result<Fit, Refusal>
+    requires has_job { HasJob job points.now work.old index.old × (count_verdict call job.table.count job.table.degree ≡ passes) × (job.given.lines ≡ 1) }
     requires roomy { Roomy job.table.count job.table.degree (room_of (lent poles.old flat.old knots.old mults.old work.old index.old)) }
     ensures { HandsOut job.table.degree (fit_by call (direction_of job points.now work.old index.old))
         (lent poles.old flat.old knots.old mults.old work.old index.old)
         (lent poles.new flat.new knots.new mults.new work.new index.new) result }
 {
-    match making::make(work, index, points, job, call) {
-        Made::Fails(c) => Answer::Refused(c),
-        Made::Stands(x) => {
-            let degree = job.table.degree;
-            let m = x.flat - degree - 1;
-            let mark = x.mark;
-            let count = making::output::hand_out(
-                work, job.poles, job.flat, m, degree, poles, flat, knots, mults,
-            );
-            Answer::Fitted(Fit {
-                mark,
-                poles: m,
-                knots: count,
-                unreadable: x.unreadable,
-            })
-        }
-    }
+    let x = making::make(work, index, points, job, call)?;
+    let degree = job.table.degree;
+    let m = x.flat - degree - 1;
+    let count = making::output::hand_out(
+        work, job.poles, job.flat, m, degree, poles, flat, knots, mults,
+    );
+    Ok(Fit {
+        mark: x.mark,
+        poles: m,
+        knots: count,
+        unreadable: x.unreadable,
+    })
 }
 
 // The call on a ladder that passed the checks, or 5.
@@ -113,8 +101,8 @@ fn fit_passed(
     mults: &mut [u32],
     work: &mut [f64],
     index: &mut [usize],
-) -> Answer
-    requires shaped { Shaped (length points.now) degree × (count_verdict call (length points.now / 3) degree ≡ Pass) }
+) -> Result<Fit, Refusal>
+    requires shaped { Shaped (length points.now) degree × (count_verdict call (length points.now / 3) degree ≡ passes) }
     requires roomy { Roomy (length points.now / 3) degree (room_of (lent poles.old flat.old knots.old mults.old work.old index.old)) }
     ensures { HandsOut degree (ladder_fit metric points.now degree (fit_by call))
         (lent poles.old flat.old knots.old mults.old work.old index.old)
@@ -122,7 +110,7 @@ fn fit_passed(
 {
     let n = points.len() / 3;
     if !knots::parameters::point_parameters(points, 0, 1, n, metric, work) {
-        return Answer::Refused(Refusal::ConfusedPoints);
+        return Err(Refusal::ConfusedPoints);
     }
     let job = ladder_job(n, degree, metric.factor);
     hand_made(points, job, call, poles, flat, knots, mults, work, index)
@@ -140,7 +128,7 @@ pub fn fit_ladder(
     mults: &mut [u32],
     work: &mut [f64],
     index: &mut [usize],
-) -> Answer
+) -> Result<Fit, Refusal>
     ensures { LadderCall call points.now degree metric
         (lent poles.old flat.old knots.old mults.old work.old index.old)
         (lent poles.new flat.new knots.new mults.new work.new index.new) result }
@@ -153,18 +141,13 @@ pub fn fit_ladder(
         work: work.len(),
         index: index.len(),
     };
-    let counts = checks::ladder::check_count(call, points.len() / 3, degree);
-    match checks::ladder::check_ladder(points, degree, counts, room, metric.factor) {
-        Verdict::Stop(c) => Answer::Refused(c),
-        Verdict::Pass => {
-            let r = fit_passed(
-                points, degree, metric, call, poles, flat, knots, mults, work, index,
-            );
-            places::clear(work);
-            places::clear_index(index);
-            r
-        }
-    }
+    check_ladder(call, points, degree, room, metric.factor)?;
+    let answer = fit_passed(
+        points, degree, metric, call, poles, flat, knots, mults, work, index,
+    );
+    work.fill(0.0);
+    index.fill(0);
+    answer
 }
 
 // `interpolate`: the curve through the points, with as many poles.
@@ -178,7 +161,7 @@ pub fn interpolate(
     mults: &mut [u32],
     work: &mut [f64],
     index: &mut [usize],
-) -> Answer
+) -> Result<Fit, Refusal>
     ensures { Interpolates points.now degree metric
         (lent poles.old flat.old knots.old mults.old work.old index.old)
         (lent poles.new flat.new knots.new mults.new work.new index.new) result }
@@ -201,7 +184,7 @@ pub fn approximate(
     mults: &mut [u32],
     work: &mut [f64],
     index: &mut [usize],
-) -> Answer
+) -> Result<Fit, Refusal>
     ensures { Approximates points.now degree count metric
         (lent poles.old flat.old knots.old mults.old work.old index.old)
         (lent poles.new flat.new knots.new mults.new work.new index.new) result }
@@ -224,7 +207,7 @@ pub fn approximate_within(
     mults: &mut [u32],
     work: &mut [f64],
     index: &mut [usize],
-) -> Answer
+) -> Result<Fit, Refusal>
     ensures { ApproximatesWithin points.now degree tolerance metric
         (lent poles.old flat.old knots.old mults.old work.old index.old)
         (lent poles.new flat.new knots.new mults.new work.new index.new) result }
@@ -247,7 +230,7 @@ pub fn search_spread(
     mults: &mut [u32],
     work: &mut [f64],
     index: &mut [usize],
-) -> Answer
+) -> Result<Fit, Refusal>
     ensures { SearchesSpread points.now degree tolerance metric
         (lent poles.old flat.old knots.old mults.old work.old index.old)
         (lent poles.new flat.new knots.new mults.new work.new index.new) result }

@@ -7,7 +7,6 @@ use native.Mathlib.Omega.{arith}
 use lib.ListN.{length}
 use lib.Ieee.{Float}
 use Rattle.bspline.specs.declared.Refusal.{Refusal}
-use Rattle.bspline.specs.declared.Verdict.TheVariants.{Pass}
 use Rattle.knots.specs.Knots.{averaged_knots, approximation_knots}
 use Rattle.knots.proofs.KnotLaws.{length-averaged}
 use Rattle.tables.specs.BasisTable.{basis_table}
@@ -21,8 +20,10 @@ use Rattle.checks.specs.declared.Call.{Call}
 use Rattle.checks.specs.declared.Call.TheVariants.{Interpolate, Approximate, ApproximateWithin, SearchSpread}
 use Rattle.checks.specs.LadderChecks.{count_verdict}
 use Rattle.checks.proofs.CheckLaws.{count-chosen}
-use Rattle.making.specs.Results.{accepted, chosen_or, fit_by}
+use Rattle.making.specs.Results.{chosen_or, fit_by}
 use Rattle.making.proofs.HandedLaws.{FitOn, From, Sized, refined_from, spread-fit, spread_sized}
+use Rattle.std.specs.Prelude.{Ok}
+use Rattle.bspline.specs.Refusals.{passes}
 
 module _ (factor : Float) (s : List Float) (degree : ℕ) (params : List Float) where
   abbrev along : Direction
@@ -55,15 +56,15 @@ module _ (factor : Float) (s : List Float) (degree : ℕ) (params : List Float) 
         go none e = alone-fit t
         go (some f) e = refines t f e
 
-    chosen-fit : (count : ℕ) (c : Refusal) → count ≤ length params → (a : Marked) → chosen_or c (fit_on_spread along count) ≡ accepted a → FitOn P along (unmarked a)
+    chosen-fit : (count : ℕ) (c : Refusal) → count ≤ length params → (a : Marked) → chosen_or c (fit_on_spread along count) ≡ Ok a → FitOn P along (unmarked a)
     unfolding chosen_or unmarked
     chosen-fit count c h a e = go (fit_on_spread along count) refl e
       where
-        go : (o : Option Candidate) → fit_on_spread along count ≡ o → chosen_or c o ≡ accepted a → FitOn P along (unmarked a)
+        go : (o : Option Candidate) → fit_on_spread along count ≡ o → chosen_or c o ≡ Ok a → FitOn P along (unmarked a)
         go none p q = let z : ◌≡◌ {A = ℕ} 0 1 = cc in absurd (omega arith)
         go (some f) p q = let r : chosen f ≡ a = cc in subst (λ (b : Marked). FitOn P along (unmarked b)) r (spread-has count h f p)
 
-    pub call-fit : (call : Call) → 1 ≤ degree → count_verdict call (length params) degree ≡ Pass → (a : Marked) → fit_by call along ≡ accepted a → FitOn P along (unmarked a)
+    pub call-fit : (call : Call) → 1 ≤ degree → count_verdict call (length params) degree ≡ passes → (a : Marked) → fit_by call along ≡ Ok a → FitOn P along (unmarked a)
     unfolding fit_by unmarked
     call-fit Interpolate low e a q = let r : interpolated (interpolate along) ≡ a = cc in subst (λ (b : Marked). FitOn P along (unmarked b)) r through-fit
     call-fit (Approximate count) low e a q = chosen-fit count _ (count-chosen count (length params) degree e low).1 a q
@@ -71,7 +72,7 @@ module _ (factor : Float) (s : List Float) (degree : ℕ) (params : List Float) 
     call-fit (SearchSpread t) low e a q = let r : spread_alone along t ≡ a = cc in subst (λ (b : Marked). FitOn P along (unmarked b)) r (alone-fit t)
 
   -- so its lengths are right
-  pub call_from : degree < length params → (call : Call) → 1 ≤ degree → count_verdict call (length params) degree ≡ Pass → (a : Marked) → fit_by call along ≡ accepted a → From along (unmarked a)
+  pub call_from : degree < length params → (call : Call) → 1 ≤ degree → count_verdict call (length params) degree ≡ passes → (a : Marked) → fit_by call along ≡ Ok a → From along (unmarked a)
   unfolding ladder
   call_from under =
       let c = length-averaged params degree in

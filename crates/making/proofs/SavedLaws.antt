@@ -18,15 +18,14 @@ use Rattle.fitting.specs.declared.Job.{Job}
 use Rattle.fitting.specs.declared.Mark.TheVariants.{Refined, Spread}
 use Rattle.fitting.specs.declared.Reached.{Reached}
 use Rattle.fitting.specs.declared.Reached.TheVariants.{Missed, Met}
-use Rattle.making.specs.declared.Made.{Made}
-use Rattle.making.specs.declared.Made.TheVariants.{Stands}
 use Rattle.checks.specs.declared.Call.TheVariants.{SearchSpread}
 use Rattle.fitting.specs.Within.{Candidate, refined, candidate, table_on, spread_alone, fit_on_spread_knots, fewer_or, fit_within_fewest}
-use Rattle.making.specs.Results.{accepted, fit_by}
+use Rattle.making.specs.Results.{fit_by}
 use Rattle.fitting.specs.Jobs.{HasJob, HasKnots, direction_of, flat_region, poles_in, candidate_in, refined_in, spread_in, RefinesWithin, SpreadsBelow}
-use Rattle.making.specs.Runs.{marked_as, HasSaved, places_of, saved_end, CopiesFit, FitCopied, Saved, Restored, Makes}
+use Rattle.making.specs.Runs.{marked_as, HasSaved, places_of, saved_end, CopiesFit, FitCopied, Saved, Restored, Makes, Made}
 use Rattle.fitting.proofs.AttemptLaws.{lines_fewer, has_job-kept, direction-kept, pole-count}
 use Rattle.making.proofs.MakeLaws.{stands_here, makes_later}
+use Rattle.std.specs.Prelude.{Ok}
 
 -- ---- the two copies
 
@@ -145,11 +144,11 @@ module _ {j : Job} {points w : List Float} {index : List ℕ} {l saved : ℕ} (h
         ∙ x.answer (refined fit)
 
     pub fewer_met : (k : ℕ) (z : Measured) → r ≡ Met k z
-        → Makes j points (accepted (fewer_or d t (some fit))) w w₂ index index₂ (Stands (record { mark = Spread z.largest; flat = k; unreadable = z.unreadable }))
+        → Makes j points (Ok (fewer_or d t (some fit))) w w₂ index index₂ (Ok (record { mark = Spread z.largest; flat = k; unreadable = z.unreadable }))
     unfolding spread_in marked_as
     fewer_met k z e =
         stands_here (Spread z.largest) k z
-        (ap accepted (fewer_is ∙ ap (λ (b : Reached). spread_in j.table.degree (refined fit) b (λ (i : ℕ). candidate_in j points i w₂ index₂)) e)) refl
+        (ap Ok (fewer_is ∙ ap (λ (b : Reached). spread_in j.table.degree (refined fit) b (λ (i : ℕ). candidate_in j points i w₂ index₂)) e)) refl
         (x.reaches.few k z e) (x.reaches.measures k z e) x.reaches.firsts kept_searched
 
     module _ {w₃ : List Float} (back : Restored j l saved w₂ w₃) where
@@ -181,11 +180,11 @@ module _ {j : Job} {points w : List Float} {index : List ℕ} {l saved : ℕ} (h
           ∙ ap (candidate d (flat_region j l w) (table_on d (flat_region j l w))) poles-back
 
       pub fewer_missed : r ≡ Missed → (y : Measured) → y ≡ measured fit.distances
-          → Makes j points (accepted (fewer_or d t (some fit))) w w₃ index index₂ (Stands (record { mark = Refined y.largest; flat = l; unreadable = y.unreadable }))
+          → Makes j points (Ok (fewer_or d t (some fit))) w w₃ index index₂ (Ok (record { mark = Refined y.largest; flat = l; unreadable = y.unreadable }))
       unfolding spread_in marked_as
       fewer_missed e y m =
           stands_here (Refined y.largest) l y
-          (ap accepted (fewer_is ∙ ap (λ (b : Reached). spread_in j.table.degree (refined fit) b (λ (i : ℕ). candidate_in j points i w₂ index₂)) e ∙ ap refined (sym fit-back))) refl
+          (ap Ok (fewer_is ∙ ap (λ (b : Reached). spread_in j.table.degree (refined fit) b (λ (i : ℕ). candidate_in j points i w₂ index₂)) e ∙ ap refined (sym fit-back))) refl
           knots (m ∙ ap (λ (f : Candidate). measured f.distances) (sym fit-back)) x.reaches.firsts kept_back
 
 -- ---- after refinement
@@ -208,20 +207,20 @@ module _ {j : Job} {points w : List Float} {index : List ℕ} (has : HasJob j po
   fewest_is = ap (fewer_or (direction_of j points w index) t) x.answer
 
   pub fewest_missed : r ≡ Missed → {w' : List Float} {index' : List ℕ} {a : Made} → Makes j points (fit_by (SearchSpread t) (direction_of j points w₁ index₁)) w₁ w' index₁ index' a
-      → Makes j points (accepted (fit_within_fewest (direction_of j points w index) t)) w w' index index' a
+      → Makes j points (Ok (fit_within_fewest (direction_of j points w index) t)) w w' index index' a
   unfolding fit_by refined_in fewer_or
   fewest_missed e y =
       makes_later y
-      (ap accepted (fewest_is ∙ ap (λ (b : Reached). fewer_or (direction_of j points w index) t (refined_in b (λ (l : ℕ). candidate_in j points l w₁ index₁))) e)
-      ∙ ap (λ (v : Direction). accepted (spread_alone v t)) (sym same-refined))
+      (ap Ok (fewest_is ∙ ap (λ (b : Reached). fewer_or (direction_of j points w index) t (refined_in b (λ (l : ℕ). candidate_in j points l w₁ index₁))) e)
+      ∙ ap (λ (v : Direction). Ok (spread_alone v t)) (sym same-refined))
       x.reaches.firsts far
 
   pub fewest_met : (l : ℕ) (z : Measured) → r ≡ Met l z → {w' : List Float} {index' : List ℕ} {a : Made}
-      → Makes j points (accepted (fewer_or (direction_of j points w₁ index₁) t (some (candidate_in j points l w₁ index₁)))) w₁ w' index₁ index' a
-      → Makes j points (accepted (fit_within_fewest (direction_of j points w index) t)) w w' index index' a
+      → Makes j points (Ok (fewer_or (direction_of j points w₁ index₁) t (some (candidate_in j points l w₁ index₁)))) w₁ w' index₁ index' a
+      → Makes j points (Ok (fit_within_fewest (direction_of j points w index) t)) w w' index index' a
   unfolding refined_in
   fewest_met l z e y =
       makes_later y
-      (ap accepted (fewest_is ∙ ap (λ (b : Reached). fewer_or (direction_of j points w index) t (refined_in b (λ (i : ℕ). candidate_in j points i w₁ index₁))) e)
-      ∙ ap (λ (v : Direction). accepted (fewer_or v t (some (candidate_in j points l w₁ index₁)))) (sym same-refined))
+      (ap Ok (fewest_is ∙ ap (λ (b : Reached). fewer_or (direction_of j points w index) t (refined_in b (λ (i : ℕ). candidate_in j points i w₁ index₁))) e)
+      ∙ ap (λ (v : Direction). Ok (fewer_or v t (some (candidate_in j points l w₁ index₁)))) (sym same-refined))
       x.reaches.firsts far

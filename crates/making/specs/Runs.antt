@@ -1,18 +1,17 @@
 -- What a call makes of a direction whose parameters stand in the work: a refusal, or the fit that then stands in the job's regions. Definitions only.
-use Rattle.std.specs.Prelude.{◌≡◌, List, ◌⊎◌, ℕ, ◌+◌, ◌-◌, ◌*◌, ◌≤◌, length, Float}
+use Rattle.std.specs.Prelude.{◌≡◌, List, ◌⊎◌, ℕ, ◌+◌, ◌-◌, ◌*◌, ◌≤◌, length, Result, Ok, Err, Float}
 use Rattle.places.specs.Regions.{part}
 use Rattle.geometry.specs.Doubles.{largest}
+use Rattle.bspline.specs.declared.Refusal.{Refusal}
 use Rattle.tables.specs.Layout.{Kept}
 use Rattle.tables.specs.Deviations.{unreadable}
 use Rattle.fitting.specs.declared.Job.{Job}
 use Rattle.fitting.specs.declared.Mark.{Mark}
 use Rattle.fitting.specs.declared.Mark.TheVariants.{Refined, Spread, Interpolated, Chosen}
 use Rattle.making.specs.declared.Standing.{Standing}
-use Rattle.making.specs.declared.Made.{Made}
-use Rattle.making.specs.declared.Made.TheVariants.{Fails, Stands}
 use Rattle.fitting.specs.Within.{Candidate, Marked, refined, spread, interpolated, chosen}
 use Rattle.fitting.specs.Marks.{largest_deviation}
-use Rattle.making.specs.Results.{Result, refused, accepted}
+use Rattle.making.specs.Results.{FitResult}
 use Rattle.fitting.specs.Jobs.{HasKnots, candidate_in}
 
 -- a fit by its mark; m poles
@@ -26,9 +25,13 @@ marked_as (Chosen x) m f = chosen f
 unfoldable pub standing_in : Job → List Float → List Float → List ℕ → Standing → Marked
 standing_in j points w index x = marked_as x.mark (x.flat - j.table.degree - 1) (candidate_in j points x.flat w index)
 
-unfoldable pub made_in : Made → (Standing → Marked) → Result
-made_in (Fails c) f = refused c
-made_in (Stands x) f = accepted (f x)
+-- what a call makes of a direction
+abbrev pub Made : Type 0
+Made = Result Standing Refusal
+
+unfoldable pub made_in : Made → (Standing → Marked) → FitResult
+made_in (Err c) f = Err c
+made_in (Ok x) f = Ok (f x)
 
 -- The fit x stands in the regions, with what its distances measure.
 pub record StandsIn (j : Job) (points w : List Float) (index : List ℕ) (x : Standing) : Type 0 where
@@ -37,9 +40,9 @@ pub record StandsIn (j : Job) (points w : List Float) (index : List ℕ) (x : St
   pub few : HasKnots j x.flat
 
 -- What a call makes of the direction in the slices: a refusal; or a fit, which stands there.
-pub record Makes (j : Job) (points : List Float) (fit : Result) (w w' : List Float) (index index' : List ℕ) (r : Made) : Type 0 where
+pub record Makes (j : Job) (points : List Float) (fit : FitResult) (w w' : List Float) (index index' : List ℕ) (r : Made) : Type 0 where
   pub answer : fit ≡ made_in r (standing_in j points w' index')
-  pub standing : (x : Standing) → r ≡ Stands x → StandsIn j points w' index' x
+  pub standing : (x : Standing) → r ≡ Ok x → StandsIn j points w' index' x
   pub firsts : Kept j.table.firsts (j.table.firsts + j.table.count) index index'
   pub kept : Kept j.flat (length w) w w'
 

@@ -5,11 +5,11 @@ pub mod output;
 
 ghost use Rattle.std.specs.Prelude.{◌≡◌, ◌≤◌, ◌<◌, length};
 ghost use Rattle.std.proofs.Math.Option.{some};
-ghost use Rattle.bspline.specs.declared.Verdict.TheVariants.{Pass};
+ghost use Rattle.bspline.specs.Refusals.{passes};
 ghost use Rattle.checks.specs.declared.Call.TheVariants.{Interpolate, Approximate, ApproximateWithin, SearchSpread};
 ghost use Rattle.tables.specs.Measures.{measured};
 ghost use Rattle.fitting.specs.Within.{fewer_or, fit_within_fewest};
-ghost use Rattle.making.specs.Results.{accepted, fit_to, fit_by};
+ghost use Rattle.making.specs.Results.{fit_to, fit_by};
 ghost use Rattle.checks.specs.LadderChecks.{aim_verdict, count_verdict};
 ghost use Rattle.fitting.specs.Jobs.{HasJob, HasKnots, direction_of, candidate_in};
 ghost use Rattle.making.specs.Runs.{HasSaved, CopiesFit, FitCopied, Makes};
@@ -27,21 +27,14 @@ pub struct Standing {
     pub unreadable: usize,
 }
 
-// What a call makes of a direction.
-#[derive(Clone, Copy)]
-pub enum Made {
-    Fails(Refusal),
-    Stands(Standing),
-}
-
 // Through the points.
-fn make_through(work: &mut [f64], index: &mut [usize], points: &[f64], job: Job) -> Made
+fn make_through(work: &mut [f64], index: &mut [usize], points: &[f64], job: Job) -> Result<Standing, Refusal>
     requires { HasJob job points.now work.old index.old }
     ensures { Makes job points.now (fit_by Interpolate (direction_of job points.now work.old index.old))
         work.old work.new index.old index.new result }
 {
     let m = fitting::attempts::pass_through(work, index, points, job);
-    Made::Stands(Standing {
+    Ok(Standing {
         mark: Mark::Interpolated(m.largest),
         flat: job.table.count + job.table.degree + 1,
         unreadable: m.unreadable,
@@ -55,14 +48,14 @@ fn make_chosen(
     points: &[f64],
     job: Job,
     count: usize,
-) -> Made
+) -> Result<Standing, Refusal>
     requires { HasJob job points.now work.old index.old × (job.table.degree < count) × (count ≤ job.table.count) }
     ensures { Makes job points.now (fit_by (Approximate count) (direction_of job points.now work.old index.old))
         work.old work.new index.old index.new result }
 {
     match fitting::attempts::attempt_spread(work, index, points, job, count) {
-        Attempt::Unfitted => Made::Fails(Refusal::PoleCountMismatch),
-        Attempt::Fitting(m) => Made::Stands(Standing {
+        Attempt::Unfitted => Err(Refusal::PoleCountMismatch),
+        Attempt::Fitting(m) => Ok(Standing {
             mark: Mark::Chosen(m.largest),
             flat: count + job.table.degree + 1,
             unreadable: m.unreadable,
@@ -77,7 +70,7 @@ fn make_spread(
     points: &[f64],
     job: Job,
     tolerance: f64,
-) -> Made
+) -> Result<Standing, Refusal>
     requires { HasJob job points.now work.old index.old }
     ensures { Makes job points.now (fit_by (SearchSpread tolerance) (direction_of job points.now work.old index.old))
         work.old work.new index.old index.new result }
@@ -85,7 +78,7 @@ fn make_spread(
     let last = job.table.count;
     match fitting::counts::fit_on_spread_knots(work, index, points, job, tolerance, last) {
         Reached::Missed => make_through(work, index, points, job),
-        Reached::Met(l, m) => Made::Stands(Standing {
+        Reached::Met(l, m) => Ok(Standing {
             mark: Mark::Spread(m.largest),
             flat: l,
             unreadable: m.unreadable,
@@ -100,14 +93,14 @@ fn make_within(
     points: &[f64],
     job: Job,
     tolerance: f64,
-) -> Made
+) -> Result<Standing, Refusal>
     requires { HasJob job points.now work.old index.old }
     ensures { Makes job points.now (fit_by (ApproximateWithin tolerance) (direction_of job points.now work.old index.old))
         work.old work.new index.old index.new result }
 {
     match fitting::refining::fit_with_refined_knots(work, index, points, job, tolerance) {
         Reached::Missed => make_spread(work, index, points, job, tolerance),
-        Reached::Met(l, m) => Made::Stands(Standing {
+        Reached::Met(l, m) => Ok(Standing {
             mark: Mark::Refined(m.largest),
             flat: l,
             unreadable: m.unreadable,
@@ -142,11 +135,11 @@ fn make_fewer(
     saved: usize,
     l: usize,
     refined: Measured,
-) -> Made
+) -> Result<Standing, Refusal>
     requires { HasJob job points.now work.old index.old × HasSaved job saved work.old × HasKnots job l
         × (refined ≡ measured (candidate_in job points.now l work.old index.old).distances) }
     ensures { Makes job points.now
-        (accepted (fewer_or (direction_of job points.now work.old index.old) tolerance (some (candidate_in job points.now l work.old index.old))))
+        (Ok (fewer_or (direction_of job points.now work.old index.old) tolerance (some (candidate_in job points.now l work.old index.old))))
         work.old work.new index.old index.new result }
 {
     let below = l - job.table.degree - 1;
@@ -155,13 +148,13 @@ fn make_fewer(
     match fitting::counts::fit_on_spread_knots(work, index, points, job, tolerance, below) {
         Reached::Missed => {
             copy_fit(work, l, n, saved, saved + l, job.flat, job.poles);
-            Made::Stands(Standing {
+            Ok(Standing {
                 mark: Mark::Refined(refined.largest),
                 flat: l,
                 unreadable: refined.unreadable,
             })
         }
-        Reached::Met(k, m) => Made::Stands(Standing {
+        Reached::Met(k, m) => Ok(Standing {
             mark: Mark::Spread(m.largest),
             flat: k,
             unreadable: m.unreadable,
@@ -177,9 +170,9 @@ fn make_fewest(
     job: Job,
     tolerance: f64,
     saved: usize,
-) -> Made
+) -> Result<Standing, Refusal>
     requires { HasJob job points.now work.old index.old × HasSaved job saved work.old }
-    ensures { Makes job points.now (accepted (fit_within_fewest (direction_of job points.now work.old index.old) tolerance))
+    ensures { Makes job points.now (Ok (fit_within_fewest (direction_of job points.now work.old index.old) tolerance))
         work.old work.new index.old index.new result }
 {
     match fitting::refining::fit_with_refined_knots(work, index, points, job, tolerance) {
@@ -196,8 +189,8 @@ pub fn make_direction(
     job: Job,
     aim: Aim,
     saved: usize,
-) -> Made
-    requires { HasJob job points.now work.old index.old × HasSaved job saved work.old × (aim_verdict aim job.table.count job.table.degree ≡ Pass) }
+) -> Result<Standing, Refusal>
+    requires { HasJob job points.now work.old index.old × HasSaved job saved work.old × (aim_verdict aim job.table.count job.table.degree ≡ passes) }
     ensures { Makes job points.now (fit_to aim (direction_of job points.now work.old index.old))
         work.old work.new index.old index.new result }
 {
@@ -208,8 +201,8 @@ pub fn make_direction(
 }
 
 // By what the call asks for.
-pub fn make(work: &mut [f64], index: &mut [usize], points: &[f64], job: Job, call: Call) -> Made
-    requires { HasJob job points.now work.old index.old × (count_verdict call job.table.count job.table.degree ≡ Pass) }
+pub fn make(work: &mut [f64], index: &mut [usize], points: &[f64], job: Job, call: Call) -> Result<Standing, Refusal>
+    requires { HasJob job points.now work.old index.old × (count_verdict call job.table.count job.table.degree ≡ passes) }
     ensures { Makes job points.now (fit_by call (direction_of job points.now work.old index.old))
         work.old work.new index.old index.new result }
 {

@@ -6,17 +6,15 @@ use lib.ListN.{length, replicate}
 use lib.Ieee.{Float}
 use Rattle.geometry.specs.Doubles.{nought}
 use Rattle.bspline.specs.declared.Refusal.{Refusal}
-use Rattle.bspline.specs.declared.Verdict.{Verdict}
-use Rattle.bspline.specs.declared.Verdict.TheVariants.{Pass, Stop}
 use Rattle.knots.specs.declared.Metric.{Metric}
 use Rattle.checks.specs.LadderChecks.{cleared}
 use Rattle.checks.specs.declared.Shape.{Shape}
 use Rattle.checks.specs.declared.SurfaceCall.{SurfaceCall}
-use Rattle.grids.specs.declared.GridAnswer.{GridAnswer}
-use Rattle.grids.specs.declared.GridAnswer.TheVariants.{Refused}
 use Rattle.checks.specs.GridChecks.{grid_of, GridLent, grid_lent, grid_room_of, grid_checks}
-use Rattle.grids.specs.Grids.{GridResult, grid_refused, grid_accepted, grid_checked, grid_fit, grid_result_of, grid_answer_of, grid_answer_number, grid_result_number, HandsOutGrid, GridCall}
+use Rattle.grids.specs.Grids.{GridResult, grid_refused, grid_accepted, grid_checked, grid_fit, grid_result_of, grid_answer_of, grid_answer_number, grid_result_number, HandsOutGrid, GridCall, GridAnswer}
 use Rattle.grids.proofs.GridRunLaws.{grid-refused}
+use Rattle.std.specs.Prelude.{Err}
+use Rattle.bspline.specs.Refusals.{Verdict, passes}
 
 module _ (call : SurfaceCall) (points : List Float) (h : Shape) (v : Metric) where
   grid_answer_number-grid_answer_of : (fit : GridResult) → grid_answer_number (grid_answer_of h fit) ≡ grid_result_number fit
@@ -24,7 +22,7 @@ module _ (call : SurfaceCall) (points : List Float) (h : Shape) (v : Metric) whe
   grid_answer_number-grid_answer_of (grid_refused c) = refl
   grid_answer_number-grid_answer_of (grid_accepted a b) = refl
 
-  pub call-refused : (c : Refusal) (l : GridLent) → Stop c ≡ grid_checks (grid_of points h v) (grid_room_of l) → GridCall call (grid_of points h v) l l (Refused c)
+  pub call-refused : (c : Refusal) (l : GridLent) → Err c ≡ grid_checks (grid_of points h v) (grid_room_of l) → GridCall call (grid_of points h v) l l (Err c)
   unfolding grid_result_of grid_checked grid_answer_number grid_result_number cleared
   call-refused c l e =
       let q : grid_result_of call (grid_of points h v) l ≡ grid_refused c = ap (λ (a : Verdict). grid_checked a (grid_fit call (grid_of points h v))) (sym e) in
@@ -36,7 +34,7 @@ module _ (call : SurfaceCall) (points : List Float) (h : Shape) (v : Metric) whe
       }
 
   pub call_passed : {poles poles' u_flat uFlat' u_knots uKnots' v_flat vFlat' v_knots vKnots' work work₁ : List Float} {u_mults uMults' v_mults vMults' index index₁ : List ℕ} {r : GridAnswer}
-      → Pass ≡ grid_checks (grid_of points h v) (grid_room_of (grid_lent poles u_flat u_knots u_mults v_flat v_knots v_mults work index))
+      → passes ≡ grid_checks (grid_of points h v) (grid_room_of (grid_lent poles u_flat u_knots u_mults v_flat v_knots v_mults work index))
       → HandsOutGrid h (grid_fit call (grid_of points h v)) (grid_lent poles u_flat u_knots u_mults v_flat v_knots v_mults work index)
       (grid_lent poles' uFlat' uKnots' uMults' vFlat' vKnots' vMults' work₁ index₁) r
       → (work' : List Float) (index' : List ℕ) → work' ≡ replicate (length work) nought → index' ≡ replicate (length index) 0

@@ -14,8 +14,6 @@ use Rattle.geometry.specs.declared.Point.{Point}
 use Rattle.geometry.specs.Doubles.{◌⊗◌, ◌⊘◌, one, double, at}
 use Rattle.bspline.specs.declared.Refusal.{Refusal}
 use Rattle.bspline.specs.declared.Refusal.TheVariants.{ConfusedPoints}
-use Rattle.bspline.specs.declared.Verdict.{Verdict}
-use Rattle.bspline.specs.declared.Verdict.TheVariants.{Pass, Stop}
 use Rattle.knots.specs.declared.Metric.{Metric}
 use Rattle.knots.specs.Parameters.{Lines, added_lines, from_zero_to_one, shared_parameters}
 use Rattle.knots.specs.Knots.{averaged_knot, averaged_knots}
@@ -31,14 +29,14 @@ use Rattle.knots.proofs.KnotLaws.{length_clamped}
 use Rattle.fitting.proofs.ToleranceLaws.{Lawful, rows_lawful, columns_lawful, search_cases, spread-flat, poles-spread, within-fewest-kept}
 use Rattle.making.proofs.HandedLaws.{Sized, From, taken, spread_from, refined_from, alone_cases, refined_mark, spread_mark}
 use Rattle.grids.specs.declared.GridFit.{GridFit}
-use Rattle.grids.specs.declared.GridAnswer.{GridAnswer}
-use Rattle.grids.specs.declared.GridAnswer.TheVariants.{Fitted, Refused}
 use Rattle.checks.specs.declared.SurfaceCall.TheVariants.{ApproximateWithin}
 use Rattle.checks.specs.GridChecks.{Grid, GridLent, grid_room_of, grid_checks, GridShaped, GridRoomy, counts_verdict}
 use Rattle.making.specs.Results.{fit_to}
-use Rattle.grids.specs.Grids.{GridResult, u_parameters, v_parameters, along_v, along_u, row_share, rows_within, fit_grid_by, grid_checked, grid_fit_with, grid_fit, grid_result_of, grid_answer_of, surface_poles, grid_handed, GridCall, GridKept, ApproximatesGridWithin, HandsOutGrid, row_aim, column_aim, after_rows, beside_rows}
+use Rattle.grids.specs.Grids.{GridResult, u_parameters, v_parameters, along_v, along_u, row_share, rows_within, fit_grid_by, grid_checked, grid_fit_with, grid_fit, grid_result_of, grid_answer_of, surface_poles, grid_handed, GridCall, GridKept, ApproximatesGridWithin, HandsOutGrid, row_aim, column_aim, after_rows, beside_rows, GridAnswer}
 use Rattle.grids.proofs.SurfaceLaws.{length-transposed}
 use Rattle.checks.proofs.GridCheckLaws.{Degrees, grid_gives, degrees-under}
+use Rattle.std.specs.Prelude.{Ok, Err}
+use Rattle.bspline.specs.Refusals.{Verdict, passes}
 
 -- ---- a grid's direction: what its fit is, whatever the mark
 pub record Sound (d : Direction) (a : Marked) : Type 0 where
@@ -103,12 +101,12 @@ shared_long v lines n point params e =
 
 -- `GridKept`, over the direction and the distances that it speaks of
 record GridKeptBy (d : Direction) (distances : GridFit → List Float) (t : Float) (r : GridAnswer) : Type 0 where
-  refined_within : (f : GridFit) (x : Float) → r ≡ Fitted f → f.u.mark ≡ Refined x → NoneAbove t (distances f)
-  spread_within : (f : GridFit) (x : Float) → r ≡ Fitted f → f.u.mark ≡ Spread x → NoneAbove t (distances f)
-  spread_passes : (f : GridFit) (x : Float) → r ≡ Fitted f → f.u.mark ≡ Spread x → passes_on_spread d t f.u.poles ≡ true
-  one_below_fails : (f : GridFit) (x : Float) → r ≡ Fitted f → f.u.mark ≡ Spread x → Fails d t (f.u.poles - 1)
+  refined_within : (f : GridFit) (x : Float) → r ≡ Ok f → f.u.mark ≡ Refined x → NoneAbove t (distances f)
+  spread_within : (f : GridFit) (x : Float) → r ≡ Ok f → f.u.mark ≡ Spread x → NoneAbove t (distances f)
+  spread_passes : (f : GridFit) (x : Float) → r ≡ Ok f → f.u.mark ≡ Spread x → passes_on_spread d t f.u.poles ≡ true
+  one_below_fails : (f : GridFit) (x : Float) → r ≡ Ok f → f.u.mark ≡ Spread x → Fails d t (f.u.poles - 1)
 
--- ---- an accepted grid
+-- ---- an Ok grid
 u_lawful : (g : Grid) (us vs : List Float) (v : Candidate) → Lawful (along_u g.metric.factor g.points g.shape us vs v)
 unfolding along_u
 u_lawful g us vs v = columns_lawful g.metric.factor g.points (basis_table v.flat g.shape.v vs) (pole_count g.shape.v v.flat) v.poles g.shape.u us
@@ -180,7 +178,7 @@ module _ (g : Grid) (t : Float) (l l' : GridLent) (us vs : List Float) (n : leng
         let k : p ≡ length h.knots - g.shape.u - 1 = omega arith in
         rw (w, x, y, z, k) (sym h.own.distances_are)
 
-    accepted-kept : (r : GridAnswer) → r ≡ Fitted handed_fit → GridKeptBy along_u' distances_of t r
+    accepted-kept : (r : GridAnswer) → r ≡ Ok handed_fit → GridKeptBy along_u' distances_of t r
     unfolding fit_of along_u grid_columns unmarked
     accepted-kept r answer =
         let d = along_u' in
@@ -208,11 +206,11 @@ module _ (g : Grid) (t : Float) (l l' : GridLent) (us vs : List Float) (n : leng
         }
 
 -- ---- each way through
-grid_stopped : (g : Grid) (c : Refusal) (x : GridResult) (r : GridAnswer) → r ≡ grid_answer_of g.shape (grid_checked (Stop c) x) → r ≡ Refused c
+grid_stopped : (g : Grid) (c : Refusal) (x : GridResult) (r : GridAnswer) → r ≡ grid_answer_of g.shape (grid_checked (Err c) x) → r ≡ Err c
 unfolding grid_checked grid_answer_of
 grid_stopped g c x r e = e
 
-refused-kept : (g : Grid) (t : Float) (l' : GridLent) (r : GridAnswer) (c : Refusal) → r ≡ Refused c → GridKept g t l' r
+refused-kept : (g : Grid) (t : Float) (l' : GridLent) (r : GridAnswer) (c : Refusal) → r ≡ Err c → GridKept g t l' r
 refused-kept g t l' r c e =
     record {
       refined_within = λ f x q m. let z : ◌≡◌ {A = ℕ} 0 1 = cc in absurd (omega arith);
@@ -225,24 +223,24 @@ refused-kept g t l' r c e =
 abbrev within_of : Grid → Float → Option (List Float) → Option (List Float) → Verdict → GridResult
 within_of g t o₁ o₂ w = grid_fit_with w (fit_grid_by (ApproximateWithin t) g) o₁ o₂
 
-u_confused : (g : Grid) (t : Float) (o₂ : Option (List Float)) (k : Verdict) (r : GridAnswer) → r ≡ grid_answer_of g.shape (grid_checked Pass (within_of g t none o₂ k)) → r ≡ Refused ConfusedPoints
+u_confused : (g : Grid) (t : Float) (o₂ : Option (List Float)) (k : Verdict) (r : GridAnswer) → r ≡ grid_answer_of g.shape (grid_checked passes (within_of g t none o₂ k)) → r ≡ Err ConfusedPoints
 unfolding grid_checked grid_fit_with grid_answer_of
 u_confused g t o₂ k r e = e
 
-v_confused : (g : Grid) (t : Float) (us : List Float) (k : Verdict) (r : GridAnswer) → r ≡ grid_answer_of g.shape (grid_checked Pass (within_of g t (some us) none k)) → r ≡ Refused ConfusedPoints
+v_confused : (g : Grid) (t : Float) (us : List Float) (k : Verdict) (r : GridAnswer) → r ≡ grid_answer_of g.shape (grid_checked passes (within_of g t (some us) none k)) → r ≡ Err ConfusedPoints
 unfolding grid_checked grid_fit_with grid_answer_of
 v_confused g t us k r e = e
 
-counts_stopped : (g : Grid) (t : Float) (us vs : List Float) (c : Refusal) (r : GridAnswer) → r ≡ grid_answer_of g.shape (grid_checked Pass (within_of g t (some us) (some vs) (Stop c))) → r ≡ Refused c
+counts_stopped : (g : Grid) (t : Float) (us vs : List Float) (c : Refusal) (r : GridAnswer) → r ≡ grid_answer_of g.shape (grid_checked passes (within_of g t (some us) (some vs) (Err c))) → r ≡ Err c
 unfolding grid_checked grid_fit_with grid_answer_of
 counts_stopped g t us vs c r e = e
 
 module _ (g : Grid) (t : Float) (l l' : GridLent) (r : GridAnswer) where
   passed-kept : (us vs : List Float) → u_parameters g ≡ some us → v_parameters g ≡ some vs → GridShaped (length g.points) g.shape → GridRoomy g.shape (grid_room_of l) → Degrees g.shape
-      → r ≡ grid_answer_of g.shape (grid_checked Pass (within_of g t (some us) (some vs) Pass))
-      → l'.u_flat ≡ grid_handed (λ u v. length u.flat) (λ u v. at u.flat) (grid_checked Pass (within_of g t (some us) (some vs) Pass)) l.u_flat
-      → l'.v_flat ≡ grid_handed (λ u v. length v.flat) (λ u v. at v.flat) (grid_checked Pass (within_of g t (some us) (some vs) Pass)) l.v_flat
-      → l'.poles ≡ grid_handed (λ u v. length (surface_poles g.shape u v)) (λ u v. at (surface_poles g.shape u v)) (grid_checked Pass (within_of g t (some us) (some vs) Pass)) l.poles
+      → r ≡ grid_answer_of g.shape (grid_checked passes (within_of g t (some us) (some vs) passes))
+      → l'.u_flat ≡ grid_handed (λ u v. length u.flat) (λ u v. at u.flat) (grid_checked passes (within_of g t (some us) (some vs) passes)) l.u_flat
+      → l'.v_flat ≡ grid_handed (λ u v. length v.flat) (λ u v. at v.flat) (grid_checked passes (within_of g t (some us) (some vs) passes)) l.v_flat
+      → l'.poles ≡ grid_handed (λ u v. length (surface_poles g.shape u v)) (λ u v. at (surface_poles g.shape u v)) (grid_checked passes (within_of g t (some us) (some vs) passes)) l.poles
       → GridKept g t l' r
   unfolding grid_checked grid_fit_with fit_grid_by rows_within row_aim column_aim fit_to after_rows beside_rows grid_answer_of grid_handed distances_of
   passed-kept us vs p q shaped room degrees a b c d =
@@ -255,7 +253,7 @@ module _ (g : Grid) (t : Float) (l l' : GridLent) (r : GridAnswer) where
       }
 
   -- who hands the call's result out keeps demand 3. The slices that the call was judged by are m: those that were lent, or none.
-  pub grid-handed-kept : (m : GridLent) → (grid_checks g (grid_room_of m) ≡ Pass → grid_checks g (grid_room_of l) ≡ Pass) → HandsOutGrid g.shape (grid_result_of (ApproximateWithin t) g m) l l' r → GridKept g t l' r
+  pub grid-handed-kept : (m : GridLent) → (grid_checks g (grid_room_of m) ≡ passes → grid_checks g (grid_room_of l) ≡ passes) → HandsOutGrid g.shape (grid_result_of (ApproximateWithin t) g m) l l' r → GridKept g t l' r
   unfolding grid_fit grid_result_of
   grid-handed-kept m lends i = go (grid_checks g (grid_room_of m)) refl (u_parameters g) refl (v_parameters g) refl (counts_verdict (ApproximateWithin t) g.shape) refl i.answer i.u_flat i.v_flat i.poles
     where
@@ -265,11 +263,11 @@ module _ (g : Grid) (t : Float) (l l' : GridLent) (r : GridAnswer) where
           → l'.v_flat ≡ grid_handed (λ u v. length v.flat) (λ u v. at v.flat) (grid_checked w (within_of g t o₁ o₂ k)) l.v_flat
           → l'.poles ≡ grid_handed (λ u v. length (surface_poles g.shape u v)) (λ u v. at (surface_poles g.shape u v)) (grid_checked w (within_of g t o₁ o₂ k)) l.poles
           → GridKept g t l' r
-      go (Stop c) e o₁ e₁ o₂ e₂ k e₃ a f h p = refused-kept g t l' r c (grid_stopped g c (within_of g t o₁ o₂ k) r a)
-      go Pass e none e₁ o₂ e₂ k e₃ a f h p = refused-kept g t l' r ConfusedPoints (u_confused g t o₂ k r a)
-      go Pass e (some us) e₁ none e₂ k e₃ a f h p = refused-kept g t l' r ConfusedPoints (v_confused g t us k r a)
-      go Pass e (some us) e₁ (some vs) e₂ (Stop c) e₃ a f h p = refused-kept g t l' r c (counts_stopped g t us vs c r a)
-      go Pass e (some us) e₁ (some vs) e₂ Pass e₃ a f h p = passed-kept us vs e₁ e₂ (grid_gives g (grid_room_of l) (lends e)).0 (grid_gives g (grid_room_of l) (lends e)).1 (degrees-under t g.shape e₃) a f h p
+      go (Err c) e o₁ e₁ o₂ e₂ k e₃ a f h p = refused-kept g t l' r c (grid_stopped g c (within_of g t o₁ o₂ k) r a)
+      go passes e none e₁ o₂ e₂ k e₃ a f h p = refused-kept g t l' r ConfusedPoints (u_confused g t o₂ k r a)
+      go passes e (some us) e₁ none e₂ k e₃ a f h p = refused-kept g t l' r ConfusedPoints (v_confused g t us k r a)
+      go passes e (some us) e₁ (some vs) e₂ (Err c) e₃ a f h p = refused-kept g t l' r c (counts_stopped g t us vs c r a)
+      go passes e (some us) e₁ (some vs) e₂ passes e₃ a f h p = passed-kept us vs e₁ e₂ (grid_gives g (grid_room_of l) (lends e)).0 (grid_gives g (grid_room_of l) (lends e)).1 (degrees-under t g.shape e₃) a f h p
 
 -- Demand 3 needs no proof of the program: it follows from the call's equations.
 pub approximates_grid-within : (g : Grid) (t : Float) (l l' : GridLent) (r : GridAnswer) → GridCall (ApproximateWithin t) g l l' r → ApproximatesGridWithin g t l l' r

@@ -10,18 +10,17 @@ use lib.Ieee.{Float}
 use borrow.Author.Tests.{lt-ltb, le-ltb}
 use Rattle.geometry.specs.Doubles.{nought}
 use Rattle.bspline.specs.declared.Refusal.{Refusal}
-use Rattle.bspline.specs.declared.Verdict.{Verdict}
-use Rattle.bspline.specs.declared.Verdict.TheVariants.{Pass, Stop}
 use Rattle.checks.specs.LadderChecks.{cleared}
 use Rattle.checks.specs.declared.SurfaceCall.{SurfaceCall}
 use Rattle.checks.specs.declared.SurfaceCall.TheVariants.{ApproximateWithin}
-use Rattle.grids.specs.declared.GridAnswer.{GridAnswer}
 use Rattle.checks.specs.GridChecks.{Grid, GridLent, grid_room_of, grid_checks}
-use Rattle.grids.specs.Grids.{GridResult, grid_refused, grid_fit, grid_checked, grid_result_of, grid_result_number, grid_answer_of, grid_answer_number, GridCall}
+use Rattle.grids.specs.Grids.{GridResult, grid_refused, grid_fit, grid_checked, grid_result_of, grid_result_number, grid_answer_of, grid_answer_number, GridCall, GridAnswer}
 use Rattle.checks.proofs.GridCheckLaws.{grid_gives}
 use Rattle.grids.proofs.GridRunLaws.{grid-refused}
 use Rattle.surfaces.proofs.GridLaws.{grid-handed-kept}
 use Rattle.telling.specs.ToldGrid.{tellable_grid, no_grid, judged_grid, told_grid_largest, told_grid_counts, ToldGridBy, ToldGrid, ToldGridWithin}
+use Rattle.std.specs.Prelude.{Err}
+use Rattle.bspline.specs.Refusals.{Verdict, passes}
 
 -- the room that the slices have
 pub few-largest : (largest : List Float) (counts : List ℕ) → length largest < 2 → tellable_grid largest counts ≡ false
@@ -37,10 +36,10 @@ enough largest counts h k =
 
 module _ (call : SurfaceCall) (g : Grid) where
   -- with nothing lent the checks stop
-  pub stops : grid_checks g (grid_room_of no_grid) ≡ Pass → ⊥
+  pub stops : grid_checks g (grid_room_of no_grid) ≡ passes → ⊥
   stops e = let r = grid_gives g (grid_room_of no_grid) e in omega (arith, r.1.for_work)
 
-  pub stopped-number : (c : Refusal) → Stop c ≡ grid_checks g (grid_room_of no_grid) → grid_result_number (grid_refused c) ≡ grid_result_number (grid_result_of call g no_grid)
+  pub stopped-number : (c : Refusal) → Err c ≡ grid_checks g (grid_room_of no_grid) → grid_result_number (grid_refused c) ≡ grid_result_number (grid_result_of call g no_grid)
   unfolding grid_result_of grid_checked
   stopped-number c e = ap (λ (w : Verdict). grid_result_number (grid_checked w (grid_fit call g))) e
 
@@ -48,8 +47,8 @@ module _ (call : SurfaceCall) (g : Grid) where
   refused_untouched : (w : Verdict) → grid_checks g (grid_room_of no_grid) ≡ w → (l : GridLent) (largest : List Float) (counts : List ℕ) (r : ℕ) → r ≡ grid_result_number (grid_result_of call g no_grid)
       → ToldGridBy no_grid call g l l largest largest counts counts r
   unfolding grid_result_of grid_checked grid_answer_of cleared
-  refused_untouched Pass e l largest counts r n = absurd (stops e)
-  refused_untouched (Stop c) e l largest counts r n =
+  refused_untouched passes e l largest counts r n = absurd (stops e)
+  refused_untouched (Err c) e l largest counts r n =
       let q : grid_result_of call g no_grid ≡ grid_refused c = ap (λ (w : Verdict). grid_checked w (grid_fit call g)) e in
       let h = grid-refused g.shape (grid_result_of call g no_grid) c q l.work l.work l.index l.index in
       record {
@@ -84,7 +83,7 @@ module _ (call : SurfaceCall) (g : Grid) where
       })
 
   -- what passes the checks as it is judged passes them as it is lent
-  lends : (b : Bool) (l : GridLent) → grid_checks g (grid_room_of (cond b l no_grid)) ≡ Pass → grid_checks g (grid_room_of l) ≡ Pass
+  lends : (b : Bool) (l : GridLent) → grid_checks g (grid_room_of (cond b l no_grid)) ≡ passes → grid_checks g (grid_room_of l) ≡ passes
   lends true l e = e
   lends false l e = absurd (stops e)
 

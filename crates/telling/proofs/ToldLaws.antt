@@ -10,18 +10,17 @@ use lib.Ieee.{Float}
 use borrow.Author.Tests.{lt-ltb, le-ltb}
 use Rattle.geometry.specs.Doubles.{nought}
 use Rattle.bspline.specs.declared.Refusal.{Refusal}
-use Rattle.bspline.specs.declared.Verdict.{Verdict}
-use Rattle.bspline.specs.declared.Verdict.TheVariants.{Pass, Stop}
 use Rattle.knots.specs.declared.Metric.{Metric}
 use Rattle.checks.specs.declared.Call.{Call}
 use Rattle.checks.specs.declared.Call.TheVariants.{ApproximateWithin, SearchSpread}
-use Rattle.ladders.specs.declared.Answer.{Answer}
 use Rattle.checks.specs.LadderChecks.{Lent, ladder_checks, cleared}
-use Rattle.making.specs.Results.{Result, refused, fit_by}
-use Rattle.ladders.specs.Ladders.{ladder_fit, checked, result_of, result_number, answer_of, answer_number, handed, handed_poles, handed_flat, handed_knots, handed_mults, LadderCall}
+use Rattle.making.specs.Results.{FitResult, fit_by}
+use Rattle.ladders.specs.Ladders.{ladder_fit, checked, result_of, result_number, answer_of, answer_number, handed, handed_poles, handed_flat, handed_knots, handed_mults, LadderCall, Answer}
 use Rattle.checks.proofs.CheckLaws.{checks_give}
 use Rattle.ladders.proofs.LadderLaws.{within-handed, spread-handed}
 use Rattle.telling.specs.Told.{tellable, nothing, judged, told_largest, told_counts, ToldBy, Told, ToldWithin, ToldSpread}
+use Rattle.std.specs.Prelude.{Err}
+use Rattle.bspline.specs.Refusals.{Verdict, passes}
 
 -- the room that the slices have
 pub few-largest : (largest : List Float) (counts : List ℕ) → length largest < 1 → tellable largest counts ≡ false
@@ -37,27 +36,27 @@ enough largest counts h k =
 
 module _ (call : Call) (s : List Float) (degree : ℕ) (v : Metric) where
   -- with nothing lent the checks stop
-  pub stops : ladder_checks call s degree v nothing ≡ Pass → ⊥
+  pub stops : ladder_checks call s degree v nothing ≡ passes → ⊥
   stops e = let g = checks_give call s degree v nothing e in omega (arith, g.0.least, g.2.for_poles)
 
-  pub stopped-number : (c : Refusal) → Stop c ≡ ladder_checks call s degree v nothing → result_number (refused c) ≡ result_number (result_of call s degree v nothing)
+  pub stopped-number : (c : Refusal) → Err c ≡ ladder_checks call s degree v nothing → result_number (Err c) ≡ result_number (result_of call s degree v nothing)
   unfolding result_of checked
   stopped-number c e = ap (λ (w : Verdict). result_number (checked w (ladder_fit v s degree (fit_by call)))) e
 
-  -- judged with nothing lent, the call is refused and touches nothing
+  -- judged with nothing lent, the call is Err and touches nothing
   refused_untouched : (w : Verdict) → ladder_checks call s degree v nothing ≡ w → (l : Lent) (largest : List Float) (counts : List ℕ) (r : ℕ) → r ≡ result_number (result_of call s degree v nothing)
       → ToldBy nothing call s degree v l l largest largest counts counts r
   unfolding result_of checked answer_of handed cleared
-  refused_untouched Pass e l largest counts r n = absurd (stops e)
-  refused_untouched (Stop c) e l largest counts r n =
-      let q : result_of call s degree v nothing ≡ refused c = ap (λ (w : Verdict). checked w (ladder_fit v s degree (fit_by call))) e in
+  refused_untouched passes e l largest counts r n = absurd (stops e)
+  refused_untouched (Err c) e l largest counts r n =
+      let q : result_of call s degree v nothing ≡ Err c = ap (λ (w : Verdict). checked w (ladder_fit v s degree (fit_by call))) e in
       record {
         number = n;
-        hands = record { answer = refl; poles = ap (λ (x : Result). handed_poles x l.poles) (sym q); flat = ap (λ (x : Result). handed_flat x l.flat) (sym q); knots = ap (λ (x : Result). handed_knots x l.knots) (sym q); mults = ap (λ (x : Result). handed_mults x l.mults) (sym q) };
+        hands = record { answer = refl; poles = ap (λ (x : FitResult). handed_poles x l.poles) (sym q); flat = ap (λ (x : FitResult). handed_flat x l.flat) (sym q); knots = ap (λ (x : FitResult). handed_knots x l.knots) (sym q); mults = ap (λ (x : FitResult). handed_mults x l.mults) (sym q) };
         work = ap (λ (w : Verdict). cleared nought w l.work) (sym e);
         index = ap (λ (w : Verdict). cleared 0 w l.index) (sym e);
-        most = ap (λ (x : Result). told_largest (answer_of degree x) largest) (sym q);
-        told = ap (λ (x : Result). told_counts (answer_of degree x) counts) (sym q);
+        most = ap (λ (x : FitResult). told_largest (answer_of degree x) largest) (sym q);
+        told = ap (λ (x : FitResult). told_counts (answer_of degree x) counts) (sym q);
       }
 
   -- no room
@@ -83,7 +82,7 @@ module _ (call : Call) (s : List Float) (degree : ℕ) (v : Metric) where
       })
 
   -- what passes the checks as it is judged passes them as it is lent
-  lends : (b : Bool) (l : Lent) → ladder_checks call s degree v (cond b l nothing) ≡ Pass → ladder_checks call s degree v l ≡ Pass
+  lends : (b : Bool) (l : Lent) → ladder_checks call s degree v (cond b l nothing) ≡ passes → ladder_checks call s degree v l ≡ passes
   lends true l e = e
   lends false l e = absurd (stops e)
 

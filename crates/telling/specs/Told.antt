@@ -1,16 +1,14 @@
 -- The ladder calls as C sees them: the number, and the mark and the counts in lent slices. Definitions only.
-use Rattle.std.specs.Prelude.{◌≡◌, Bool, cond, not, ◌&&◌, List, [], ℕ, ◌+◌, ltb, length, set, Float}
+use Rattle.std.specs.Prelude.{◌≡◌, Bool, cond, not, ◌&&◌, List, [], ℕ, ◌+◌, ltb, length, set, Float, Ok, Err}
 use Rattle.std.proofs.Math.Option.{none}
 use Rattle.geometry.specs.Doubles.{nought}
 use Rattle.knots.specs.declared.Metric.{Metric}
 use Rattle.checks.specs.declared.Call.{Call}
 use Rattle.checks.specs.declared.Call.TheVariants.{ApproximateWithin, SearchSpread}
 use Rattle.fitting.specs.declared.Fit.{Fit}
-use Rattle.ladders.specs.declared.Answer.{Answer}
-use Rattle.ladders.specs.declared.Answer.TheVariants.{Fitted, Refused}
 use Rattle.fitting.specs.Marks.{largest_deviation, mark_number}
 use Rattle.checks.specs.LadderChecks.{Lent, lent, ladder_checks, cleared}
-use Rattle.ladders.specs.Ladders.{result_of, result_number, answer_of, HandsOut, ladder_of, LadderKept}
+use Rattle.ladders.specs.Ladders.{result_of, result_number, answer_of, HandsOut, ladder_of, LadderKept, Answer}
 use Rattle.fitting.specs.Within.{fit_with_refined_knots}
 
 -- room for the largest deviation, and for mark, poles, distinct knots and unreadable deviations
@@ -30,12 +28,12 @@ put_fit k f xs = set (set (set (set xs k (mark_number f.mark)) (k + 1) f.poles) 
 
 -- what is told of an answer
 abbrev pub told_largest : Answer → List Float → List Float
-told_largest (Refused c) xs = xs
-told_largest (Fitted f) xs = set xs 0 (largest_deviation f.mark)
+told_largest (Err c) xs = xs
+told_largest (Ok f) xs = set xs 0 (largest_deviation f.mark)
 
 abbrev pub told_counts : Answer → List ℕ → List ℕ
-told_counts (Refused c) xs = xs
-told_counts (Fitted f) xs = put_fit 0 f xs
+told_counts (Err c) xs = xs
+told_counts (Ok f) xs = put_fit 0 f xs
 
 -- What a ladder call for C leaves, judged by the slices m.
 pub record ToldBy (m : Lent) (call : Call) (s : List Float) (degree : ℕ) (v : Metric) (l l' : Lent) (largest largest' : List Float) (counts counts' : List ℕ) (r : ℕ) : Type 0 where

@@ -1,15 +1,13 @@
 -- The grid calls as C sees them: the number, and both directions' marks and counts in lent slices. Definitions only.
-use Rattle.std.specs.Prelude.{◌≡◌, Bool, cond, not, ◌&&◌, List, [], ℕ, ltb, length, set, Float}
+use Rattle.std.specs.Prelude.{◌≡◌, Bool, cond, not, ◌&&◌, List, [], ℕ, ltb, length, set, Float, Ok, Err}
 use Rattle.geometry.specs.Doubles.{nought}
 use Rattle.fitting.specs.Marks.{largest_deviation}
 use Rattle.checks.specs.LadderChecks.{cleared}
 use Rattle.checks.specs.declared.Shape.{Shape}
 use Rattle.checks.specs.declared.SurfaceCall.{SurfaceCall}
 use Rattle.checks.specs.declared.SurfaceCall.TheVariants.{ApproximateWithin}
-use Rattle.grids.specs.declared.GridAnswer.{GridAnswer}
-use Rattle.grids.specs.declared.GridAnswer.TheVariants.{Fitted, Refused}
 use Rattle.checks.specs.GridChecks.{Grid, GridLent, grid_lent, grid_room_of, grid_checks}
-use Rattle.grids.specs.Grids.{grid_result_of, grid_result_number, grid_answer_of, HandsOutGrid, GridKept}
+use Rattle.grids.specs.Grids.{grid_result_of, grid_result_number, grid_answer_of, HandsOutGrid, GridKept, GridAnswer}
 use Rattle.telling.specs.Told.{put_fit}
 
 -- rows and columns of points, and the degrees along u and v
@@ -29,12 +27,12 @@ judged_grid l largest counts = cond (tellable_grid largest counts) l no_grid
 
 -- what is told of an answer: u's first, then v's
 abbrev pub told_grid_largest : GridAnswer → List Float → List Float
-told_grid_largest (Refused c) xs = xs
-told_grid_largest (Fitted f) xs = set (set xs 0 (largest_deviation f.u.mark)) 1 (largest_deviation f.v.mark)
+told_grid_largest (Err c) xs = xs
+told_grid_largest (Ok f) xs = set (set xs 0 (largest_deviation f.u.mark)) 1 (largest_deviation f.v.mark)
 
 abbrev pub told_grid_counts : GridAnswer → List ℕ → List ℕ
-told_grid_counts (Refused c) xs = xs
-told_grid_counts (Fitted f) xs = put_fit 4 f.v (put_fit 0 f.u xs)
+told_grid_counts (Err c) xs = xs
+told_grid_counts (Ok f) xs = put_fit 4 f.v (put_fit 0 f.u xs)
 
 -- What a grid call for C leaves, judged by the slices m.
 pub record ToldGridBy (m : GridLent) (call : SurfaceCall) (g : Grid) (l l' : GridLent) (largest largest' : List Float) (counts counts' : List ℕ) (r : ℕ) : Type 0 where

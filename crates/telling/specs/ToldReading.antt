@@ -1,9 +1,7 @@
 -- The reader as C sees it: the number, and the point in a lent slice. Definitions only.
-use Rattle.std.specs.Prelude.{◌≡◌, cond, List, ℕ, ltb, length, Float}
+use Rattle.std.specs.Prelude.{◌≡◌, cond, List, ℕ, ltb, length, Float, Ok, Err}
 use Rattle.geometry.specs.Points.{put_point}
-use Rattle.bspline.specs.declared.Reading.{Reading}
-use Rattle.bspline.specs.declared.Reading.TheVariants.{Read, Refused}
-use Rattle.bspline.specs.Reader.{reader_verdict, reading_of, reading_number, curve_point, flat_knots}
+use Rattle.bspline.specs.Reader.{reader_verdict, reading_of, reading_number, curve_point, flat_knots, Reading}
 
 -- a reading's number, and 9 where the slice for the point is too short
 abbrev pub told_reading : List Float → Reading → ℕ
@@ -11,8 +9,8 @@ told_reading out r = cond (ltb (length out) 3) 9 (reading_number r)
 
 -- its point in the first three places
 abbrev pub point_in : List Float → Reading → List Float
-point_in out (Read q) = put_point 0 q out
-point_in out (Refused c) = out
+point_in out (Ok q) = put_point 0 q out
+point_in out (Err c) = out
 
 abbrev pub told_point : List Float → Reading → List Float
 told_point out r = cond (ltb (length out) 3) out (point_in out r)

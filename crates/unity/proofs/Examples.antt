@@ -13,7 +13,6 @@ use Rattle.places.proofs.PlaceLaws.{some_false}
 use Rattle.geometry.specs.declared.Point.{Point}
 use Rattle.geometry.specs.Doubles.{nought, one, half, double, is_finite, at}
 use Rattle.geometry.proofs.FloatOrder.{test}
-use Rattle.bspline.specs.declared.Reading.TheVariants.{Read}
 use Rattle.bspline.specs.Refusals.{stop_if, ◌next◌}
 use Rattle.bspline.specs.Spans.{span_from, span_before, clamp, last_with, span_of, NeverFalls, InRange}
 use Rattle.bspline.specs.Basis.{share, rising, row, basis, left_of, right_of, basis_at}
@@ -22,6 +21,7 @@ use Rattle.tables.specs.BasisTable.{basis_table, value}
 use Rattle.unity.specs.Unity.{exact_sum, NearlyOne, InUnitInterval}
 use Rattle.unity.proofs.UnityLaws.{nearly_one}
 use Rattle.unity.proofs.ReadLaws.{reading_nearly_one, table_nearly_one}
+use Rattle.std.specs.Prelude.{Ok}
 
 abbrev flat : List Float
 flat = nought ∷ nought ∷ nought ∷ one ∷ one ∷ one ∷ []
@@ -121,7 +121,7 @@ poles = nought ∷ nought ∷ nought ∷ one ∷ nought ∷ nought ∷ double 2 
 abbrev point : Point
 point = curve_point (flat_knots knots mults) 2 poles fifth
 
-is_read : Reads poles 2 knots mults fifth (Read point)
+is_read : Reads poles 2 knots mults fifth (Ok point)
 unfolding reader_verdict sizes_verdict knots_verdict not_readable not_increasing too_large inner_too_large sum_of no_multiplicity not_finite is_finite stop_if ◌next◌ reading_of reading_number verdict_number flat_knots joined some_below of_bits le is_nan
 is_read = record { answer = refl; number = refl }
 

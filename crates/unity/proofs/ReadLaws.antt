@@ -12,9 +12,6 @@ use Rattle.geometry.specs.declared.Point.{Point}
 use Rattle.geometry.specs.Doubles.{nought, one, at}
 use Rattle.geometry.specs.Points.{point_at, weighted}
 use Rattle.geometry.proofs.FloatOrder.{test, le_left}
-use Rattle.bspline.specs.declared.Verdict.{Verdict}
-use Rattle.bspline.specs.declared.Verdict.TheVariants.{Pass, Stop}
-use Rattle.bspline.specs.declared.Reading.TheVariants.{Read}
 use Rattle.bspline.specs.Spans.{span_at, clamp, span_of, first_parameter, last_parameter}
 use Rattle.bspline.specs.Basis.{basis_at}
 use Rattle.bspline.specs.Reader.{flat_knots, curve_point, reader_verdict, reading_of}
@@ -25,6 +22,8 @@ use Rattle.bspline.proofs.CheckLaws.{readable, taken}
 use Rattle.tables.proofs.TableLaws.{row_values}
 use Rattle.unity.specs.Unity.{NearlyOne, InUnitInterval, WideSpan, ReadingNearlyOne, TableNearlyOne}
 use Rattle.unity.proofs.UnityLaws.{nearly_one}
+use Rattle.std.specs.Prelude.{Ok, Err}
+use Rattle.bspline.specs.Refusals.{Verdict, passes}
 
 -- ---- the reader
 
@@ -50,11 +49,11 @@ module _ (poles : List Float) (d : ℕ) (knots : List Float) (mults : List ℕ) 
   abbrev s : ℕ
   s = span_of flat d x
 
-  by_verdict : (w : Verdict) → reader_verdict poles d knots mults u ≡ w → Read q ≡ reading_of w (curve_point flat d poles u) → T (fits binary64 u) → InUnitInterval knots → WideSpan flat s
+  by_verdict : (w : Verdict) → reader_verdict poles d knots mults u ≡ w → Ok q ≡ reading_of w (curve_point flat d poles u) → T (fits binary64 u) → InUnitInterval knots → WideSpan flat s
       → (q ≡ weighted (d + 1) (at (basis_at flat d s x)) (λ a. point_at poles (s - d + a))) × NearlyOne (basis_at flat d s x)
   unfolding reading_of curve_point
-  by_verdict (Stop c) e f F Z W = let z : ◌≡◌ {A = ℕ} 0 1 = cc in absurd (omega arith)
-  by_verdict Pass e f F Z W =
+  by_verdict (Err c) e f F Z W = let z : ◌≡◌ {A = ℕ} 0 1 = cc in absurd (omega arith)
+  by_verdict passes e f F Z W =
       let t = taken poles d knots mults u e in
       let number : T (not (is_nan u)) = rw (readable _ d knots mults u t.readable).number tt in
       let end = length flat - 1 - d in

@@ -1,6 +1,6 @@
 -- Computed basis functions add up to one, nearly (The NURBS Book, P2.3 and P2.4; document 02, request Twelve). Definitions only.
 -- Exact values are counted in units of 2 ^ -1074 (geometry's specs/Nearest).
-use Rattle.std.specs.Prelude.{ℕ, ◌+◌, ◌-◌, ◌*◌, ◌^◌, ◌≤◌, ◌<◌, ◌≡◌, true, List, [], ◌∷◌, T, length, Float}
+use Rattle.std.specs.Prelude.{ℕ, ◌+◌, ◌-◌, ◌*◌, ◌^◌, ◌≤◌, ◌<◌, ◌≡◌, true, List, [], ◌∷◌, T, length, Float, Ok}
 use Rattle.std.specs.Float.{binary64}
 use Rattle.std.specs.Float.Ieee.{fits, le}
 use Rattle.std.specs.Float.Ieee.Digits.{Equals}
@@ -9,7 +9,6 @@ use Rattle.geometry.specs.declared.Point.{Point}
 use Rattle.geometry.specs.Doubles.{nought, one, at}
 use Rattle.geometry.specs.Nearest.{units_in_one, in_units}
 use Rattle.geometry.specs.Points.{point_at, weighted}
-use Rattle.bspline.specs.declared.Reading.TheVariants.{Read}
 use Rattle.bspline.specs.Spans.{span_at, clamp, span_of, first_parameter, last_parameter, NeverFalls, InSpan, InRange}
 use Rattle.bspline.specs.Basis.{basis_at}
 use Rattle.bspline.specs.Reader.{flat_knots, Reads}
@@ -60,7 +59,7 @@ BasisNearlyOne =
 -- The values by which `read` weights the poles, wherever it answers a point: all that is known of it is its promise, `Reads`. The span that it finds holds the parameter.
 abbrev pub ReadingNearlyOne : Type 0
 ReadingNearlyOne =
-    (poles : List Float) (d : ℕ) (knots : List Float) (mults : List ℕ) (u : Float) (q : Point) → Reads poles d knots mults u (Read q) → T (fits binary64 u)
+    (poles : List Float) (d : ℕ) (knots : List Float) (mults : List ℕ) (u : Float) (q : Point) → Reads poles d knots mults u (Ok q) → T (fits binary64 u)
     → let flat = flat_knots knots mults in
     let x = clamp u (first_parameter flat d) (last_parameter flat d) in
     let s = span_of flat d x in

@@ -1,36 +1,24 @@
 -- The checks' verdict is the contract's; where it passes, the fit is handed out and then the work and the index are cleared. Assumes nothing.
-use mathlib.Core.Path.{◌≡◌, ◌∙◌, ap, sym}
-use Prim.Native.Nat.{ℕ}
-use lib.ListN.{length, replicate}
+use Rattle.std.proofs.Common.{rules, ◌≡◌, ◌∙◌, sym, length, replicate, Err}
 use Rattle.geometry.specs.Doubles.{nought}
+use Rattle.bspline.specs.Refusals.{passes}
 use Rattle.checks.specs.LadderChecks.{lent}
-use Rattle.checks.proofs.CheckLaws.{checks_give, checks_are}
 use Rattle.ladders.proofs.RunLaws.{call-refused, call_passed}
-use borrow.Author.Rules.{rules}
 use Rattle.ladders.proofs.fit_ladder.Goals as goal
 
-pub fit_passed-r-requires : goal.fit_passed-r-requires
-fit_passed-r-requires c =
+pub returns-in_err-check_ladder : goal.returns-in_err-check_ladder
+returns-in_err-check_ladder c =
     let a = c.args in
     let l = lent a.poles.now a.flat.now a.knots.now a.mults.now a.work.now a.index.now in
-    let r = checks_are a.call a.points.now a.degree a.metric l _ _ c.check_ladder.ensures c.check_count-counts.ensures in
-    let g = checks_give a.call a.points.now a.degree a.metric l (sym r ∙ c.in-Pass.is) in
-    record { shaped = (g.0, g.1); roomy = g.2 }
+    let e : c.check_ladder.result ≡ Err c.in_err-check_ladder.field-0.0 = search rules in
+    let f : c.from_residual.result ≡ Err c.in_err-check_ladder.field-0.0 = search rules in
+    rw f (call-refused a.call a.points.now a.degree a.metric _ l (sym e ∙ c.check_ladder.ensures.verdict))
 
-pub returns-in-Stop : goal.returns-in-Stop
-returns-in-Stop c =
+pub returns : goal.returns
+returns c =
     let a = c.args in
-    let l = lent a.poles.now a.flat.now a.knots.now a.mults.now a.work.now a.index.now in
-    let r = checks_are a.call a.points.now a.degree a.metric l _ _ c.check_ladder.ensures c.check_count-counts.ensures in
-    call-refused a.call a.points.now a.degree a.metric _ l (sym c.in-Stop.is ∙ r)
-
-pub returns-in-Pass : goal.returns-in-Pass
-returns-in-Pass c =
-    let a = c.args in
-    let l = lent a.poles.now a.flat.now a.knots.now a.mults.now a.work.now a.index.now in
-    let r = checks_are a.call a.points.now a.degree a.metric l _ _ c.check_ladder.ensures c.check_count-counts.ensures in
-    let p = c.fit_passed-r in
-    let long : length p.new.work ≡ length a.work.now = search rules in
-    let wide : length p.new.index ≡ length a.index.now = search rules in
-    call_passed a.call a.points.now a.degree a.metric (sym c.in-Pass.is ∙ r) p.ensures _ _
-    (c.clear.ensures ∙ ap (λ (n : ℕ). replicate n nought) long) (c.clear_index.ensures ∙ ap (λ (n : ℕ). replicate n 0) wide)
+    let p = c.fit_passed-answer in
+    let e : c.check_ladder.result ≡ passes = search rules in
+    let w : c.fill.new.self ≡ replicate (length a.work.now) nought = search rules in
+    let i : c.fill-2.new.self ≡ replicate (length a.index.now) 0 = search rules in
+    call_passed a.call a.points.now a.degree a.metric (sym e ∙ c.check_ladder.ensures.verdict) p.ensures _ _ w i

@@ -1,19 +1,18 @@
 -- Each call has its function. Assumes nothing.
-use mathlib.Core.Path.{sym, subst}
+use mathlib.Core.Path.{sym, subst, ◌≡◌}
 use Rattle.checks.specs.declared.Call.{Call}
 use Rattle.checks.specs.LadderChecks.{count_verdict}
 use Rattle.making.specs.Results.{fit_by}
 use Rattle.fitting.specs.Jobs.{direction_of}
 use Rattle.making.specs.Runs.{Makes}
 use Rattle.checks.proofs.CheckLaws.{count-chosen}
-use Rattle.bspline.specs.declared.Verdict.TheVariants.{Pass}
-use mathlib.Core.Path.{◌≡◌}
 use Rattle.making.proofs.make.Goals as goal
+use Rattle.bspline.specs.Refusals.{passes}
 
 pub make_chosen-requires : goal.make_chosen-requires
 make_chosen-requires c =
     let a = c.args in
-    let v = subst (λ (x : Call). count_verdict x a.job.table.count a.job.table.degree ≡ Pass) c.in-Approximate.is c.requires.1 in
+    let v = subst (λ (x : Call). count_verdict x a.job.table.count a.job.table.degree ≡ passes) c.in-Approximate.is c.requires.1 in
     let b = count-chosen c.in-Approximate.count a.job.table.count a.job.table.degree v c.requires.0.low in
     (c.requires.0, b.0, b.1)
 

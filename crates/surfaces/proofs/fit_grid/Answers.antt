@@ -4,8 +4,7 @@ use Prim.Native.Nat.{ℕ}
 use lib.ListN.{length, replicate}
 use Rattle.geometry.specs.Doubles.{nought}
 use Rattle.checks.specs.GridChecks.{grid_of, grid_lent, grid_room_of}
-use Rattle.checks.proofs.GridCheckLaws.{grid_gives}
-use Rattle.checks.proofs.GridCheckLaws.{grid_checks_are}
+use Rattle.checks.proofs.GridCheckLaws.{grid_gives, grid_checks_are}
 use Rattle.surfaces.proofs.CallLaws.{call-refused, call_passed}
 use borrow.Author.Rules.{rules}
 use Rattle.surfaces.proofs.fit_grid.Goals as goal

@@ -6,8 +6,7 @@ use native.Mathlib.Omega.{arith}
 use lib.ListN.{length}
 use Rattle.places.specs.Regions.{splice}
 use Rattle.bspline.specs.declared.Refusal.TheVariants.{ConfusedPoints}
-use Rattle.knots.proofs.LineLaws.{rows_inside, columns_in}
-use Rattle.knots.proofs.LineLaws.{found_none, found_some}
+use Rattle.knots.proofs.LineLaws.{rows_inside, columns_in, found_none, found_some}
 use Rattle.grids.proofs.GridRunLaws.{grid-same, grid-refused}
 use Rattle.grids.proofs.GridCallLaws.{passed-given, there-long, u_there, v_there, u-none, v-none, counts_stop, counts_pass}
 use borrow.Author.Rules.{rules}

@@ -4,8 +4,7 @@ use mathlib.Core.List.{List}
 use lib.ListN.{set}
 use lib.Ieee.{Float}
 use Rattle.fitting.specs.Marks.{largest_deviation}
-use Rattle.grids.specs.declared.GridAnswer.{GridAnswer}
-use Rattle.grids.specs.Grids.{grid_answer_number}
+use Rattle.grids.specs.Grids.{grid_answer_number, GridAnswer}
 use Rattle.telling.specs.Told.{put_fit}
 use Rattle.telling.specs.ToldGrid.{told_grid_largest, told_grid_counts}
 use Rattle.telling.proofs.grid.tell_grid.Goals as goal

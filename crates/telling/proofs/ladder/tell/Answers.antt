@@ -1,7 +1,6 @@
 -- A refusal leaves the slices, and a fit is told in their first places. Assumes nothing.
 use mathlib.Core.Path.{◌∙◌, sym, ap}
-use Rattle.ladders.specs.declared.Answer.{Answer}
-use Rattle.ladders.specs.Ladders.{answer_number}
+use Rattle.ladders.specs.Ladders.{answer_number, Answer}
 use Rattle.telling.specs.Told.{told_largest, told_counts}
 use Rattle.telling.proofs.ladder.tell.Goals as goal
 
