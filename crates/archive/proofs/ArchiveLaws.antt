@@ -13,7 +13,7 @@ use Rattle.places.proofs.PlaceLaws.{length-list_of, list_of-at, part-laid}
 use Rattle.geometry.specs.Doubles.{nought, one, at, largest}
 use Rattle.geometry.specs.Points.{distance, point_at}
 use Rattle.bspline.specs.declared.Refusal.{Refusal}
-use Rattle.bspline.specs.Reader.{flat_knots, curve_point, reader_verdict, reading_of}
+use Rattle.bspline.specs.Reader.{number_in, flat_knots, curve_point, reader_verdict, reading_of}
 use Rattle.bspline.proofs.CheckLaws.{numbered}
 use Rattle.knots.specs.declared.Metric.{Metric}
 use Rattle.knots.specs.Parameters.{point_parameters}
@@ -34,13 +34,13 @@ use Rattle.checks.proofs.CheckLaws.{checks_give, count_under}
 use Rattle.checks.proofs.RisingLaws.{Rising, ladder-rises}
 use Rattle.making.specs.Results.{FitResult, fit_by}
 use Rattle.making.proofs.HandedLaws.{FitOn, taken}
-use Rattle.ladders.specs.Ladders.{fit_with, ladder_fit, checked, result_of, result_number, answer_of, handed, ladder_of, HandsOut, Answer}
+use Rattle.ladders.specs.Ladders.{fit_with, ladder_fit, result_of, answer_of, handed, ladder_of, HandsOut, Answer}
 use Rattle.telling.specs.Told.{tellable, nothing, judged, told_largest, told_counts}
 use Rattle.archive.specs.Archive.{archived_poles, archived_knots, archived_mults, parameter_of, fit_point, ReadsBack, ArchiveReadsFit, ToldReadsFit}
 use Rattle.archive.proofs.EndLaws.{Curve, call-curve}
 use Rattle.archive.proofs.ReadLaws.{reads-taken, read-there, first-told, ends-told, told-taken, told-read}
 use Rattle.std.specs.Prelude.{Ok, Err}
-use Rattle.bspline.specs.Refusals.{Verdict, passes}
+use Rattle.bspline.specs.Refusals.{Verdict, pass}
 
 -- ---- what stands in the slices
 
@@ -55,7 +55,7 @@ module _ (call : Call) (s : List Float) (degree : ℕ) (v : Metric) (l l' : Lent
   abbrev along : List Float → Direction
   along params = ladder v.factor s degree params
 
-  module _ (params : List Float) (found : point_parameters v (point_count s) (point_at s) ≡ some params) (passes : ladder_checks call s degree v l ≡ passes)
+  module _ (params : List Float) (found : point_parameters v (point_count s) (point_at s) ≡ some params) (passes : ladder_checks call s degree v l ≡ pass)
       (a : Marked) (by : fit_by call (along params) ≡ Ok a) (is : f ≡ fit_of degree a)
       (poles : l'.poles ≡ laid 0 (length (unmarked a).poles) (at (unmarked a).poles) l.poles)
       (flat : l'.flat ≡ laid 0 (length (unmarked a).flat) (at (unmarked a).flat) l.flat)
@@ -76,7 +76,7 @@ module _ (call : Call) (s : List Float) (degree : ℕ) (v : Metric) (l l' : Lent
         let low = g.0.low in
         let under = count_under call n degree g.1 low in
         call-curve v.factor s degree params (λ k h. rising.shares k (omega (arith, rising.long))) (omega (arith, under, rising.long)) call low
-        (subst (λ (m : ℕ). count_verdict call m degree ≡ passes) (sym rising.long) g.1) a by
+        (subst (λ (m : ℕ). count_verdict call m degree ≡ pass) (sym rising.long) g.1) a by
 
     room : Roomy n degree (room_of l)
     room = (checks_give call s degree v l passes).2
@@ -142,8 +142,8 @@ module _ (call : Call) (s : List Float) (degree : ℕ) (v : Metric) (l l' : Lent
         ∙ ap (λ (x : List Float). table_point (basis_table c.flat degree params) x 0 k) poles_are
 
     -- where the reader takes what is archived, it takes the fit's own curve, and its answer at each parameter is the fit's own point
-    module _ (u : Float) (takes : reader_verdict (archived_poles f l') degree (archived_knots f l') (archived_mults f l') u ≡ passes) where
-      made-taken : reader_verdict c.poles degree (list_of (distinct_knots c.flat) (knot_at c.flat)) (list_of (distinct_knots c.flat) (multiplicity_at c.flat)) u ≡ passes
+    module _ (u : Float) (takes : reader_verdict (archived_poles f l') degree (archived_knots f l') (archived_mults f l') u ≡ pass) where
+      made-taken : reader_verdict c.poles degree (list_of (distinct_knots c.flat) (knot_at c.flat)) (list_of (distinct_knots c.flat) (multiplicity_at c.flat)) u ≡ pass
       made-taken = rw (poles_are, knots_are, mults_are) at takes
 
       answer : (k : ℕ) → k < n
@@ -174,14 +174,14 @@ module _ (call : Call) (s : List Float) (degree : ℕ) (v : Metric) (l l' : Lent
         }
 
   -- who hands a call's result out has handed out a curve that reads back. The slices that the call was judged by are m: those that were lent, or none.
-  pub hands-back : (m : Lent) → (ladder_checks call s degree v m ≡ passes → ladder_checks call s degree v l ≡ passes) → HandsOut degree (result_of call s degree v m) l l' (Ok f) → ReadsBack v s degree l' f
+  pub hands-back : (m : Lent) → (ladder_checks call s degree v m ≡ pass → ladder_checks call s degree v l ≡ pass) → HandsOut degree (result_of call s degree v m) l l' (Ok f) → ReadsBack v s degree l' f
   unfolding result_of ladder_fit checked fit_with answer_of handed
   hands-back m lends h = by_checks (ladder_checks call s degree v m) refl (point_parameters v (point_count s) (point_at s)) refl h
     where
       refusal : (x : Refusal) → Ok f ≡ Err x → ReadsBack v s degree l' f
       refusal x e = let z : ◌≡◌ {A = ℕ} 0 1 = cc in absurd (omega arith)
 
-      by-fit : (params : List Float) → point_parameters v (point_count s) (point_at s) ≡ some params → ladder_checks call s degree v m ≡ passes
+      by-fit : (params : List Float) → point_parameters v (point_count s) (point_at s) ≡ some params → ladder_checks call s degree v m ≡ pass
           → (r : FitResult) → fit_by call (along params) ≡ r → HandsOut degree r l l' (Ok f) → ReadsBack v s degree l' f
       by-fit params p e (Err x) q h = refusal x h.answer
       by-fit params p e (Ok a) q h = let i : f ≡ fit_of degree a = cc h.answer in accepted-back params p (lends e) a q i h.poles h.flat h.knots h.mults
@@ -189,8 +189,8 @@ module _ (call : Call) (s : List Float) (degree : ℕ) (v : Metric) (l l' : Lent
       by_checks : (w : Verdict) → ladder_checks call s degree v m ≡ w → (o : Option (List Float)) → point_parameters v (point_count s) (point_at s) ≡ o
           → HandsOut degree (checked w (fit_with v.factor s degree (fit_by call) o)) l l' (Ok f) → ReadsBack v s degree l' f
       by_checks (Err x) e o p h = refusal x h.answer
-      by_checks passes e none p h = refusal _ h.answer
-      by_checks passes e (some params) p h = by-fit params p e (fit_by call (along params)) refl h
+      by_checks (Ok p₀) e none p h = refusal _ h.answer
+      by_checks (Ok p₀) e (some params) p h = by-fit params p e (fit_by call (along params)) refl h
 
 -- of every ladder call
 pub archive_reads_fit : ArchiveReadsFit
@@ -198,14 +198,14 @@ archive_reads_fit call s degree v l l' f h = hands-back call s degree v l l' f l
 
 -- ---- for C
 
--- a call judged with nothing lent is Err
-lends : (call : Call) (s : List Float) (degree : ℕ) (v : Metric) (b : Bool) (l : Lent) → ladder_checks call s degree v (cond b l nothing) ≡ passes → ladder_checks call s degree v l ≡ passes
+-- a call judged with nothing lent is refused
+lends : (call : Call) (s : List Float) (degree : ℕ) (v : Metric) (b : Bool) (l : Lent) → ladder_checks call s degree v (cond b l nothing) ≡ pass → ladder_checks call s degree v l ≡ pass
 lends call s degree v true l e = e
 lends call s degree v false l e = let g = checks_give call s degree v nothing e in absurd (omega (arith, g.0.least, g.2.for_poles))
 
 -- a result without one is a fit
-fit_told : (degree : ℕ) (r : FitResult) → 0 ≡ result_number r → (f : Fit) × (answer_of degree r ≡ Ok f)
-unfolding result_number answer_of
+fit_told : (degree : ℕ) (r : FitResult) → 0 ≡ number_in r → (f : Fit) × (answer_of degree r ≡ Ok f)
+unfolding answer_of
 fit_told degree (Ok a) e = (fit_of degree a, refl)
 fit_told degree (Err c) e = absurd (omega (arith, numbered c))
 

@@ -36,7 +36,7 @@ use Rattle.making.specs.Results.{fit_by}
 use Rattle.making.proofs.HandedLaws.{FitOn, Sized, refined-fit, spread_sized}
 use Rattle.making.proofs.FitLaws.{call-fit}
 use Rattle.std.specs.Prelude.{Ok}
-use Rattle.bspline.specs.Refusals.{passes}
+use Rattle.bspline.specs.Refusals.{pass}
 
 -- ---- one value sorted in
 
@@ -164,7 +164,7 @@ next-round d flat new r h =
       in_order = ascending-sorted (flat ++ new);
     }
 
--- ---- the knots of every Ok ladder fit, by whichever call
+-- ---- the knots of every accepted ladder fit, by whichever call
 
 -- knots of the poles' degree begin at 0 and end at 1
 pub record Curve (d : Direction) (flat : List Float) : Type 0 where
@@ -193,7 +193,7 @@ module _ (factor : Float) (s : List Float) (degree : ℕ) (params : List Float) 
         sized = record { low = omega (arith, g.0, h.sized.low); high = omega (arith, g.1) };
       }
 
-  pub call-curve : (call : Call) → 1 ≤ degree → count_verdict call (length params) degree ≡ passes → (a : Marked) → fit_by call along ≡ Ok a → FitOn (Curve along) along (unmarked a)
+  pub call-curve : (call : Call) → 1 ≤ degree → count_verdict call (length params) degree ≡ pass → (a : Marked) → fit_by call along ≡ Ok a → FitOn (Curve along) along (unmarked a)
   unfolding ladder
   call-curve =
       let l = length-averaged params degree in

@@ -7,7 +7,7 @@ use lib.ListN.{length}
 use lib.Ieee.{Float, le, lt, eq, is_nan, of_bits, binary64}
 use Rattle.places.specs.Places.{list_of, joined, some_below, count_below}
 use Rattle.geometry.specs.Doubles.{is_finite}
-use Rattle.bspline.specs.Refusals.{stop_if, ◌next◌, passes}
+use Rattle.bspline.specs.Refusals.{stop_if, ◌next◌, pass}
 use Rattle.bspline.specs.Reader.{flat_knots, sum_of, not_increasing, inner_too_large, too_large, sizes_verdict, knots_verdict, no_multiplicity, not_finite, not_readable, reader_verdict, reading_of, curve_point, Reading}
 use Rattle.bspline.proofs.CheckLaws.{reads}
 use Rattle.knots.specs.declared.Metric.{Metric}
@@ -29,7 +29,7 @@ averaged = bits 0 ∷ bits 0 ∷ bits 0 ∷ bits 0x3fd8_0000_0000_0000 ∷ bits 
 
 -- read at u, as it is handed out: of four poles their number alone matters
 abbrev Taken : List Float → Float → Type 0
-Taken poles u = reader_verdict poles 2 (list_of (distinct_knots averaged) (knot_at averaged)) (list_of (distinct_knots averaged) (multiplicity_at averaged)) u ≡ passes
+Taken poles u = reader_verdict poles 2 (list_of (distinct_knots averaged) (knot_at averaged)) (list_of (distinct_knots averaged) (multiplicity_at averaged)) u ≡ pass
 
 -- at 0, 0.25, 0.5 and 1
 pub averaged_taken : (poles : List Float) → length poles ≡ 12 → Taken poles (bits 0) × Taken poles (bits 0x3fd0_0000_0000_0000) × Taken poles (bits 0x3fe0_0000_0000_0000) × Taken poles (bits 0x3ff0_0000_0000_0000)
@@ -43,6 +43,6 @@ pub averaged_read : (call : Call) (s : List Float) (v : Metric) (l l' : Lent) (f
 unfolding reading_of
 averaged_read call s v l l' f h twelve knots mults k g r there =
     let q = curve_point (flat_knots (archived_knots f l') (archived_mults f l')) 2 (archived_poles f l') (bits 0) in
-    let passes : reader_verdict (archived_poles f l') 2 (archived_knots f l') (archived_mults f l') (bits 0) ≡ passes = rw (knots, mults) (averaged_taken (archived_poles f l') twelve).0 in
+    let passes : reader_verdict (archived_poles f l') 2 (archived_knots f l') (archived_mults f l') (bits 0) ≡ pass = rw (knots, mults) (averaged_taken (archived_poles f l') twelve).0 in
     let here = reads (archived_poles f l') 2 (archived_knots f l') (archived_mults f l') (bits 0) (Ok q) (rw passes) in
     (archive_reads_fit call s 2 v l l' f h).same (bits 0) q here k g r there

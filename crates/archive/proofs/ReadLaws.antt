@@ -16,7 +16,7 @@ use Rattle.geometry.specs.Doubles.{nought, one, at}
 use Rattle.geometry.specs.Points.{put_point}
 use Rattle.geometry.proofs.ShareLaws.{share-number, share-from_zero, share-to_one}
 use Rattle.bspline.specs.Spans.{NeverFalls, first_parameter, last_parameter, InRange}
-use Rattle.bspline.specs.Reader.{flat_knots, curve_point, not_increasing, reader_verdict, reading_of, reading_number, Reads, Reading}
+use Rattle.bspline.specs.Reader.{number_in, flat_knots, curve_point, not_increasing, reader_verdict, reading_of, Reads, Reading}
 use Rattle.bspline.proofs.CheckLaws.{Taken, taken, taken_there, numbers, numbered}
 use Rattle.knots.specs.Knots.{distinct_knots, knot_at, multiplicity_at}
 use Rattle.knots.proofs.KnotLaws.{Ends}
@@ -26,15 +26,15 @@ use Rattle.checks.proofs.RisingLaws.{Rising}
 use Rattle.telling.specs.ToldReading.{told_reading, told_point, ToldReads}
 use Rattle.archive.proofs.RunLaws.{same-flat, last-wide, first-mult, first-knot, last-knot}
 use Rattle.std.specs.Prelude.{Ok, Err}
-use Rattle.bspline.specs.Refusals.{Verdict, passes}
+use Rattle.bspline.specs.Refusals.{Verdict, pass}
 
 -- what reads at some parameter is taken
-pub reads-taken : (poles : List Float) (d : ℕ) (knots : List Float) (mults : List ℕ) (u : Float) (p : Point) → Reads poles d knots mults u (Ok p) → reader_verdict poles d knots mults u ≡ passes
+pub reads-taken : (poles : List Float) (d : ℕ) (knots : List Float) (mults : List ℕ) (u : Float) (p : Point) → Reads poles d knots mults u (Ok p) → reader_verdict poles d knots mults u ≡ pass
 unfolding reading_of
 reads-taken poles d knots mults u p h = go (reader_verdict poles d knots mults u) h.answer
   where
-    go : (w : Verdict) → Ok p ≡ reading_of w (curve_point (flat_knots knots mults) d poles u) → w ≡ passes
-    go passes e = refl
+    go : (w : Verdict) → Ok p ≡ reading_of w (curve_point (flat_knots knots mults) d poles u) → w ≡ pass
+    go (Ok p₀) e = refl
     go (Err c) e = let z : ◌≡◌ {A = ℕ} 0 1 = cc in absurd (omega arith)
 
 module _ (flat : List Float) (d : ℕ) (ends : 2 * d + 2 ≤ length flat → Ends d flat) (poles : List Float) (count : length poles ≡ 3 * (length flat - d - 1)) where
@@ -47,7 +47,7 @@ module _ (flat : List Float) (d : ℕ) (ends : 2 * d + 2 ≤ length flat → End
   abbrev mults : List ℕ
   mults = list_of D (multiplicity_at flat)
 
-  module _ (w : Float) (passes : reader_verdict poles d knots mults w ≡ passes) where
+  module _ (w : Float) (passes : reader_verdict poles d knots mults w ≡ pass) where
     has : Taken poles d knots mults w
     has = taken poles d knots mults w passes
 
@@ -119,18 +119,17 @@ module _ (flat : List Float) (d : ℕ) (ends : 2 * d + 2 ≤ length flat → End
 -- ---- for C
 
 -- a result of 0 is a reading
-pub told-taken : (poles : List Float) (d : ℕ) (knots : List Float) (mults : List ℕ) (u : Float) (out out' : List Float) → ToldReads poles d knots mults u out out' 0 → reader_verdict poles d knots mults u ≡ passes
-unfolding reading_of reading_number
+pub told-taken : (poles : List Float) (d : ℕ) (knots : List Float) (mults : List ℕ) (u : Float) (out out' : List Float) → ToldReads poles d knots mults u out out' 0 → reader_verdict poles d knots mults u ≡ pass
+unfolding reading_of
 told-taken poles d knots mults u out out' h = go (ltb (length out) 3) (reader_verdict poles d knots mults u) h.value
   where
-    go : (b : Bool) (v : Verdict) → 0 ≡ cond b 9 (reading_number (reading_of v (curve_point (flat_knots knots mults) d poles u))) → v ≡ passes
+    go : (b : Bool) (v : Verdict) → 0 ≡ cond b 9 (number_in (reading_of v (curve_point (flat_knots knots mults) d poles u))) → v ≡ pass
     go true v e = absurd (omega arith)
-    go false passes e = refl
+    go false (Ok p₀) e = refl
     go false (Err c) e = absurd (omega (arith, numbered c))
 
 -- where there is room, what is told of a reading is 0 and its point
 pub told-read : (out out' : List Float) (r : ℕ) (a : Reading) (q : Point) → 3 ≤ length out → r ≡ told_reading out a → out' ≡ told_point out a → a ≡ Ok q → (r ≡ 0) × (out' ≡ put_point 0 q out)
-unfolding reading_number
 told-read out out' r a q h value after is =
     let room = le-ltb (length out) 3 h in
     (rw (room, is) at value, rw (room, is) at after)

@@ -20,17 +20,17 @@ use Rattle.geometry.proofs.DoubleLaws.{finite_number}
 use Rattle.bspline.specs.declared.Refusal.{Refusal}
 use Rattle.bspline.specs.declared.Refusal.TheVariants.{TooFewPoints, InvalidDegree, DegreeTooHigh, TooManyPoles, ConfusedPoints, PoleCountMismatch, NotTriples, TooLarge, BufferTooShort, CoordinateOutOfRange, TooFewKnots, KnotsNotIncreasing, MultiplicityTooLarge, NotReadable, InvalidTarget, FactorOutOfRange, WeightCountMismatch, NonPositiveWeight, NotConvertible, StepsNotRising, DifferenceTooLarge}
 use Rattle.std.specs.Prelude.{Result, Ok, Err}
-use Rattle.bspline.specs.Refusals.{Verdict, number_of, passes, stop_if, ◌next◌}
+use Rattle.bspline.specs.Refusals.{Verdict, number_of, pass, stop_if, ◌next◌}
 use Rattle.bspline.specs.Spans.{NeverFalls, first_parameter, last_parameter}
 use Rattle.bspline.specs.Reader.{multiplicity, not_increasing, inner_too_large, too_large, no_multiplicity, not_finite, not_readable, flat_knots, sizes_verdict, knots_verdict, reader_verdict, reading_of, number_in, curve_point, Sized, Counted, Reads}
 use Rattle.bspline.proofs.ReaderLaws.{length-flat, flat_never_falls}
 
 -- both pass where the two pass together
-pub both_pass : (v w : Verdict) → (v next w) ≡ passes → (v ≡ passes) × (w ≡ passes)
+pub both_pass : (v w : Verdict) → (v next w) ≡ pass → (v ≡ pass) × (w ≡ pass)
 both_pass (Ok p) w e = (refl, e)
 both_pass (Err c) w e = let z : ◌≡◌ {A = ℕ} 0 1 = cc in absurd (omega arith)
 
-pub test_fails : (b : Bool) (c : Refusal) → stop_if b c ≡ passes → b ≡ false
+pub test_fails : (b : Bool) (c : Refusal) → stop_if b c ≡ pass → b ≡ false
 test_fails true c e = let z : ◌≡◌ {A = ℕ} 0 1 = cc in absurd (omega arith)
 test_fails false c e = refl
 
@@ -63,12 +63,11 @@ numbered DifferenceTooLarge = lit< tt
 pub refused : {A : Type 0} → (v : Verdict) (c : Refusal) (r : Result A Refusal) → v ≡ Err c → Err c ≡ (v next r)
 refused v c r e = rw e
 
-pub passed : {A : Type 0} → (v : Verdict) (r : Result A Refusal) → v ≡ passes → r ≡ (v next r)
+pub passed : {A : Type 0} → (v : Verdict) (r : Result A Refusal) → v ≡ pass → r ≡ (v next r)
 passed v r e = rw e
 
 -- what answers where the checks pass changes no number
 number-next : (v : Verdict) (q : Point) → number_in (reading_of v q) ≡ number_in v
-unfolding number_in
 number-next (Ok p) q = refl
 number-next (Err c) q = refl
 
@@ -82,7 +81,7 @@ reads poles d knots mults u r e = record {
 
 -- ---- what the checks give
 
-pub sizes_pass : (places d knots mults : ℕ) → sizes_verdict places d knots mults ≡ passes → Sized places d knots mults
+pub sizes_pass : (places d knots mults : ℕ) → sizes_verdict places d knots mults ≡ pass → Sized places d knots mults
 unfolding sizes_verdict
 sizes_pass places d knots mults e =
     let e₁ = both_pass _ _ e in
@@ -101,7 +100,7 @@ sizes_pass places d knots mults e =
       pairs = eqb-true _ _ (not-false _ (or_false (ltb mults 2) (not (eqb knots mults)) few.1).1);
     }
 
-pub knots_pass : (n d : ℕ) (knots : List Float) (mults : List ℕ) → knots_verdict n d knots mults ≡ passes → Counted n d knots mults
+pub knots_pass : (n d : ℕ) (knots : List Float) (mults : List ℕ) → knots_verdict n d knots mults ≡ pass → Counted n d knots mults
 unfolding knots_verdict
 knots_pass n d knots mults e =
     let e₁ = both_pass _ _ e in
@@ -166,7 +165,7 @@ pub record Taken (poles : List Float) (d : ℕ) (knots : List Float) (mults : Li
   pub first : multiplicity mults 0 ≤ d + 1
   pub last : multiplicity mults (length mults - 1) ≤ d + 1
 
-ends_pass : (n d : ℕ) (knots : List Float) (mults : List ℕ) → knots_verdict n d knots mults ≡ passes → (multiplicity mults 0 ≤ d + 1) × (multiplicity mults (length mults - 1) ≤ d + 1)
+ends_pass : (n d : ℕ) (knots : List Float) (mults : List ℕ) → knots_verdict n d knots mults ≡ pass → (multiplicity mults 0 ≤ d + 1) × (multiplicity mults (length mults - 1) ≤ d + 1)
 unfolding knots_verdict too_large
 ends_pass n d knots mults e =
     let e₁ = both_pass _ _ e in
@@ -175,11 +174,11 @@ ends_pass n d knots mults e =
     let b = or_false (ltb (d + 1) (multiplicity mults (length mults - 1))) (inner_too_large d mults) a.1 in
     (ltb-false _ _ a.0, ltb-false _ _ b.0)
 
-module _ (poles : List Float) (d : ℕ) (knots : List Float) (mults : List ℕ) (u : Float) (e : reader_verdict poles d knots mults u ≡ passes) where
+module _ (poles : List Float) (d : ℕ) (knots : List Float) (mults : List ℕ) (u : Float) (e : reader_verdict poles d knots mults u ≡ pass) where
   abbrev n : ℕ
   n = length poles / 3
 
-  each_passes : (sizes_verdict (length poles) d (length knots) (length mults) ≡ passes) × ((knots_verdict n d knots mults ≡ passes) × (not_readable n d knots mults u ≡ false))
+  each_passes : (sizes_verdict (length poles) d (length knots) (length mults) ≡ pass) × ((knots_verdict n d knots mults ≡ pass) × (not_readable n d knots mults u ≡ false))
   unfolding reader_verdict
   each_passes =
       let e₁ = both_pass _ _ e in
@@ -204,7 +203,7 @@ module _ (poles : List Float) (d : ℕ) (knots : List Float) (mults : List ℕ) 
       }
 
   -- whether it is taken does not hang on the parameter, unless that is a NaN
-  pub taken_there : (w : Float) → is_nan w ≡ false → reader_verdict poles d knots mults w ≡ passes
+  pub taken_there : (w : Float) → is_nan w ≡ false → reader_verdict poles d knots mults w ≡ pass
   unfolding reader_verdict not_readable
   taken_there w f =
       let r = readable n d knots mults u each_passes.1.1 in

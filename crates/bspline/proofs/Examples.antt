@@ -3,9 +3,9 @@ use Rattle.std.proofs.Common.{◌≡◌, refl}
 use lib.Ieee.{nan, binary64, of_bits, le}
 use Rattle.bspline.specs.declared.Refusal.TheVariants.{FactorOutOfRange}
 use Rattle.std.specs.Prelude.{Err}
-use Rattle.bspline.specs.Refusals.{passes, factor_verdict}
+use Rattle.bspline.specs.Refusals.{pass, factor_verdict}
 
-pub ends-pass : (factor_verdict (of_bits binary64 0x3fd0_0000_0000_0000) ≡ passes) × (factor_verdict (of_bits binary64 0x4010_0000_0000_0000) ≡ passes)
+pub ends-pass : (factor_verdict (of_bits binary64 0x3fd0_0000_0000_0000) ≡ pass) × (factor_verdict (of_bits binary64 0x4010_0000_0000_0000) ≡ pass)
 unfolding factor_verdict of_bits le
 ends-pass = (refl, refl)
 

@@ -89,7 +89,7 @@ abbrev pub reading_of : Verdict → Point → Reading
 reading_of v q = (v next Ok q)
 
 -- document 01's number of a verdict or an answer: 0 where it is no refusal
-unfoldable pub number_in : {A : Type 0} → Result A Refusal → ℕ
+abbrev pub number_in : {A : Type 0} → Result A Refusal → ℕ
 number_in (Ok x) = 0
 number_in (Err c) = number_of c
 

@@ -24,7 +24,7 @@ use Rattle.fitting.specs.Within.{Candidate, Marked, pole_count}
 use Rattle.fitting.specs.Marks.{unmarked, mark_of, fit_of}
 use Rattle.checks.specs.LadderChecks.{Lent, point_count, count_verdict, ladder_checks}
 use Rattle.making.specs.Results.{FitResult, fit_by}
-use Rattle.ladders.specs.Ladders.{fit_with, ladder_fit, checked, result_of, answer_of, handed, handed_poles, handed_knots, handed_mults, LadderCall, Answer}
+use Rattle.ladders.specs.Ladders.{fit_with, ladder_fit, result_of, answer_of, handed, handed_poles, handed_knots, handed_mults, LadderCall, Answer}
 use Rattle.checks.proofs.CheckLaws.{checks_give, count_under}
 use Rattle.making.proofs.HandedLaws.{From, taken}
 use Rattle.making.proofs.FitLaws.{call_from}
@@ -33,7 +33,7 @@ use Rattle.card_reader.specs.declared.Tolerance.{Tolerance}
 use Rattle.card_printer.specs.Answer.{answer_text}
 use Rattle.card.specs.Answers.{call_of, buffers, fit_text, result_text, handed_text, FewIn}
 use Rattle.std.specs.Prelude.{Ok, Err}
-use Rattle.bspline.specs.Refusals.{Verdict, passes}
+use Rattle.bspline.specs.Refusals.{Verdict, pass}
 
 -- a fit of n points of degree p: at most n poles, and flat knots to them
 pub record Stands (p n : ℕ) (f : Candidate) : Type 0 where
@@ -87,7 +87,7 @@ module _ (degree : ℕ) (l : Lent) where
 
 -- the fit that a tolerance asks for
 fit-right : (t : Tolerance) (factor : Float) (s : List Float) (degree : ℕ) (params : List Float) (l : Lent) (r : Answer)
-    → degree < length params → length params ≤ 64 → 1 ≤ degree → degree ≤ 25 → count_verdict (call_of t) (length params) degree ≡ passes
+    → degree < length params → length params ≤ 64 → 1 ≤ degree → degree ≤ 25 → count_verdict (call_of t) (length params) degree ≡ pass
     → (x : FitResult) → fit_by (call_of t) (ladder factor s degree params) ≡ x → r ≡ answer_of degree x
     → l.poles ≡ handed_poles x buffers.poles → l.knots ≡ handed_knots x buffers.knots → l.mults ≡ handed_mults x buffers.mults → Right r l x
 fit-right t factor s degree params l r under few low high e (Err c) q a p k m = right-refused degree l r c a
@@ -107,12 +107,12 @@ by-tolerance t s degree v l r few c =
         → l.mults ≡ handed_mults (checked w (fit_with v.factor s degree (fit_by (call_of t)) o)) buffers.mults
         → Right r l (checked w (fit_with v.factor s degree (fit_by (call_of t)) o))
     go (Err q) e o u a p k m = right-refused degree l r q a
-    go passes e none u a p k m = right-refused degree l r ConfusedPoints a
-    go passes e (some params) u a p k m =
+    go (Ok p₀) e none u a p k m = right-refused degree l r ConfusedPoints a
+    go (Ok p₀) e (some params) u a p k m =
         let g = checks_give (call_of t) s degree v buffers e in
         let long = params-long v (point_count s) (point_at s) params u in
         let under = count_under (call_of t) (point_count s) degree g.1 g.0.low in
-        let count = subst (λ (n : ℕ). count_verdict (call_of t) n degree ≡ passes) (sym long) g.1 in
+        let count = subst (λ (n : ℕ). count_verdict (call_of t) n degree ≡ pass) (sym long) g.1 in
         fit-right t v.factor s degree params l r (omega arith) (omega arith) g.0.low g.0.high count (fit_by (call_of t) (ladder v.factor s degree params)) refl a p k m
 
 -- after the program's call the slices hold the text's fit

@@ -6,9 +6,10 @@ ghost use Rattle.card_printer.specs.Answer.{Put};
 ghost use Rattle.card.specs.Answers.{call_of, FewIn, handed_text, ladder_text, printed};
 
 use card_reader::{Head, Judgement, Tolerance};
+use bspline::Refusal;
 use checks::Call;
+use fitting::Fit;
 use knots::Metric;
-use ladders::Answer;
 
 // `none` interpolates.
 fn call_of(tolerance: Tolerance) -> Call
@@ -21,13 +22,19 @@ fn call_of(tolerance: Tolerance) -> Call
 }
 
 // The text of a call's answer, whose poles, knots and multiplicities stand at the front of the slices.
-fn put_handed(answer: Answer, poles: &[f64], knots: &[f64], mults: &[u32], out: &mut [u8]) -> usize
+fn put_handed(
+    answer: Result<Fit, Refusal>,
+    poles: &[f64],
+    knots: &[f64],
+    mults: &[u32],
+    out: &mut [u8],
+) -> usize
     requires { FewIn answer × (192 ≤ length poles.now) × (90 ≤ length knots.now) × (90 ≤ length mults.now) × (8192 ≤ length out.old) }
     ensures { Put out.old out.new 0 result (handed_text answer poles.now knots.now mults.now) × IsPrefixLen result out.new }
 {
     match answer {
-        Answer::Refused(c) => card_printer::put_refusal(c.number(), out),
-        Answer::Fitted(f) => {
+        Err(c) => card_printer::put_refusal(c.number(), out),
+        Ok(f) => {
             let mark = f.mark;
             let k = f.knots;
             let m = 3 * f.poles;

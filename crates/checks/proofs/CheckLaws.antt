@@ -8,7 +8,7 @@ use lib.ListN.{length}
 use lib.Ieee.{Float}
 use borrow.Author.Tests.{ltb-false, eqb-true, not-false}
 use Rattle.places.proofs.PlaceLaws.{or_false}
-use Rattle.bspline.specs.Refusals.{passes}
+use Rattle.bspline.specs.Refusals.{pass}
 use Rattle.bspline.proofs.CheckLaws.{both_pass, test_fails}
 use Rattle.knots.specs.declared.Metric.{Metric}
 use Rattle.checks.specs.declared.Room.{Room}
@@ -22,7 +22,7 @@ use Rattle.checks.specs.LadderChecks.{Lent, point_count, shape_verdict, chosen_v
 pub small : (p n : ℕ) → p ≤ 25 → n ≤ 1024 → 4 * p * n ≤ 102400
 small p n h l = mul-le-mul {n₁ = 4 * p} {m₁ = n} {n₂ = 100} {m₂ = 1024} (omega arith) l
 
-pub shape_pass : (places p : ℕ) → shape_verdict places p ≡ passes → Shaped places p
+pub shape_pass : (places p : ℕ) → shape_verdict places p ≡ pass → Shaped places p
 unfolding shape_verdict
 shape_pass places p e =
     let e₁ = both_pass _ _ e in
@@ -37,17 +37,17 @@ shape_pass places p e =
       high = ltb-false _ _ degree.1;
     }
 
-pub unchosen_pass : (n p : ℕ) → unchosen_verdict n p ≡ passes → p ≤ n - 1
+pub unchosen_pass : (n p : ℕ) → unchosen_verdict n p ≡ pass → p ≤ n - 1
 unfolding unchosen_verdict
 unchosen_pass n p e = ltb-false (n - 1) p (test_fails _ _ e)
 
-pub chosen_pass : (n p m : ℕ) → chosen_verdict n p m ≡ passes → (p ≤ m - 1) × (m ≤ n)
+pub chosen_pass : (n p m : ℕ) → chosen_verdict n p m ≡ pass → (p ≤ m - 1) × (m ≤ n)
 unfolding chosen_verdict
 chosen_pass n p m e =
     let e₁ = both_pass _ _ e in
     (ltb-false (m - 1) p (test_fails _ _ e₁.0), ltb-false n m (test_fails _ _ e₁.1))
 
-pub room_pass : (n p : ℕ) (r : Room) → room_verdict n p r ≡ passes → Roomy n p r
+pub room_pass : (n p : ℕ) (r : Room) → room_verdict n p r ≡ pass → Roomy n p r
 unfolding room_verdict
 room_pass n p r e =
     let e₁ = both_pass _ _ e in
@@ -66,8 +66,8 @@ room_pass n p r e =
 
 -- ---- all of them
 
-pub checks_give : (call : Call) (s : List Float) (degree : ℕ) (v : Metric) (l : Lent) → ladder_checks call s degree v l ≡ passes
-    → Shaped (length s) degree × (count_verdict call (point_count s) degree ≡ passes) × Roomy (point_count s) degree (room_of l)
+pub checks_give : (call : Call) (s : List Float) (degree : ℕ) (v : Metric) (l : Lent) → ladder_checks call s degree v l ≡ pass
+    → Shaped (length s) degree × (count_verdict call (point_count s) degree ≡ pass) × Roomy (point_count s) degree (room_of l)
 unfolding ladder_verdict
 checks_give call s degree v l e =
     let a = both_pass (shape_verdict (length s) degree) _ e in
@@ -76,7 +76,7 @@ checks_give call s degree v l e =
     (shape_pass (length s) degree a.0, b.0, room_pass (point_count s) degree (room_of l) c.0)
 
 -- the degree is below the points
-pub count_under : (call : Call) (n p : ℕ) → count_verdict call n p ≡ passes → 1 ≤ p → p < n
+pub count_under : (call : Call) (n p : ℕ) → count_verdict call n p ≡ pass → 1 ≤ p → p < n
 unfolding count_verdict
 count_under Interpolate n p e h = omega (arith, unchosen_pass n p e)
 count_under (Approximate m) n p e h = let c = chosen_pass n p m e in omega (arith, c.0, c.1)
@@ -84,19 +84,19 @@ count_under (ApproximateWithin t) n p e h = omega (arith, unchosen_pass n p e)
 count_under (SearchSpread t) n p e h = omega (arith, unchosen_pass n p e)
 
 -- and below the chosen poles, which are no more than the points
-pub count-chosen : (m n p : ℕ) → count_verdict (Approximate m) n p ≡ passes → 1 ≤ p → (p < m) × (m ≤ n)
+pub count-chosen : (m n p : ℕ) → count_verdict (Approximate m) n p ≡ pass → 1 ≤ p → (p < m) × (m ≤ n)
 unfolding count_verdict
 count-chosen m n p e h = let c = chosen_pass n p m e in (omega (arith, c.0), c.1)
 
 -- the same for one direction of a grid
-pub aim-under : (aim : Aim) (n p : ℕ) → aim_verdict aim n p ≡ passes → 1 ≤ p → p < n
+pub aim-under : (aim : Aim) (n p : ℕ) → aim_verdict aim n p ≡ pass → 1 ≤ p → p < n
 unfolding aim_verdict
 aim-under (Count m) n p e h = let c = chosen_pass n p m e in omega (arith, c.0, c.1)
 aim-under (Within t) n p e h = omega (arith, unchosen_pass n p e)
 
-pub aim-chosen : (aim : Aim) (m n p : ℕ) → aim ≡ Count m → aim_verdict aim n p ≡ passes → 1 ≤ p → (p < m) × (m ≤ n)
+pub aim-chosen : (aim : Aim) (m n p : ℕ) → aim ≡ Count m → aim_verdict aim n p ≡ pass → 1 ≤ p → (p < m) × (m ≤ n)
 unfolding aim_verdict
 aim-chosen aim m n p a e h =
-    let q : chosen_verdict n p m ≡ passes = sym (ap (λ (x : Aim). aim_verdict x n p) a) ∙ e in
+    let q : chosen_verdict n p m ≡ pass = sym (ap (λ (x : Aim). aim_verdict x n p) a) ∙ e in
     let c = chosen_pass n p m q in
     (omega (arith, c.0), c.1)

@@ -7,7 +7,7 @@ use lib.ListN.{length}
 use lib.Ieee.{Float}
 use borrow.Author.Tests.{ltb-false, eqb-true, not-false}
 use Rattle.places.proofs.PlaceLaws.{or_false}
-use Rattle.bspline.specs.Refusals.{passes}
+use Rattle.bspline.specs.Refusals.{pass}
 use Rattle.bspline.proofs.CheckLaws.{both_pass, test_fails}
 use Rattle.checks.proofs.CheckLaws.{unchosen_pass}
 use Rattle.checks.specs.declared.Shape.{Shape}
@@ -22,7 +22,7 @@ points-few rows cols h k = mul-le-mul {n₁ = rows} {m₁ = cols} {n₂ = 64} {m
 pub places-few : (count degree : ℕ) → count ≤ 128 → degree ≤ 50 → count * (6 * degree + 24) ≤ 41472
 places-few count degree h k = mul-le-mul {n₁ = count} {m₁ = 6 * degree + 24} {n₂ = 128} {m₂ = 324} h (omega arith)
 
-pub grid-shaped : (places : ℕ) (h : Shape) → grid_shape_verdict places h ≡ passes → GridShaped places h
+pub grid-shaped : (places : ℕ) (h : Shape) → grid_shape_verdict places h ≡ pass → GridShaped places h
 unfolding grid_shape_verdict
 grid-shaped places h e =
     let e₁ = both_pass _ _ e in
@@ -45,7 +45,7 @@ grid-shaped places h e =
       whole = eqb-true _ _ (not-false _ (test_fails _ _ e₄.1));
     }
 
-pub grid-room : (h : Shape) (r : GridRoom) → grid_room_verdict h r ≡ passes → GridRoomy h r
+pub grid-room : (h : Shape) (r : GridRoom) → grid_room_verdict h r ≡ pass → GridRoomy h r
 unfolding grid_room_verdict
 grid-room h r e =
     let e₁ = both_pass _ _ e in
@@ -68,7 +68,7 @@ grid-room h r e =
       for_index = ltb-false _ _ (test_fails _ _ e₈.1);
     }
 
-pub grid_gives : (g : Grid) (r : GridRoom) → grid_checks g r ≡ passes → GridShaped (length g.points) g.shape × GridRoomy g.shape r
+pub grid_gives : (g : Grid) (r : GridRoom) → grid_checks g r ≡ pass → GridShaped (length g.points) g.shape × GridRoomy g.shape r
 unfolding grid_checks
 grid_gives g r e =
     let a = both_pass (grid_shape_verdict (length g.points) g.shape) _ e in
@@ -80,6 +80,6 @@ pub record Degrees (h : Shape) : Type 0 where
   pub u-under : h.u ≤ h.rows - 1
   pub v-under : h.v ≤ h.cols - 1
 
-pub degrees-under : (t : Float) (h : Shape) → counts_verdict (ApproximateWithin t) h ≡ passes → Degrees h
+pub degrees-under : (t : Float) (h : Shape) → counts_verdict (ApproximateWithin t) h ≡ pass → Degrees h
 unfolding counts_verdict
 degrees-under t h e = let a = both_pass _ _ e in record { u-under = unchosen_pass h.rows h.u a.0; v-under = unchosen_pass h.cols h.v a.1 }

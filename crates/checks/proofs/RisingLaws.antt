@@ -23,7 +23,7 @@ use Rattle.geometry.proofs.ExactLaws.{Exact}
 use Rattle.geometry.proofs.FloatOrder.{holds, test}
 use Rattle.geometry.proofs.ShareLaws.{Share, nought-share, one-share, share-from_zero, part-to_one, part-share, part-order}
 use Rattle.geometry.proofs.SizeLaws.{Size}
-use Rattle.bspline.specs.Refusals.{outside, factor_verdict, passes}
+use Rattle.bspline.specs.Refusals.{outside, factor_verdict, pass}
 use Rattle.bspline.specs.Spans.{NeverFalls}
 use Rattle.bspline.proofs.CheckLaws.{both_pass, test_fails}
 use Rattle.knots.specs.declared.Metric.{Metric}
@@ -72,7 +72,7 @@ inside : (x : Float) → outside x ≡ false → Size x (2 ^ 20)
 unfolding outside
 inside x e = let b = both_hold _ _ e in million x (test b.0) (test b.1)
 
-factor_size : (f : Float) → factor_verdict f ≡ passes → Size f 4
+factor_size : (f : Float) → factor_verdict f ≡ pass → Size f 4
 unfolding factor_verdict
 factor_size f e = let b = both_hold _ _ (test_fails _ _ e) in four f (test b.0) (test b.1)
 
@@ -173,8 +173,8 @@ module _ (v : Metric) (n : ℕ) (point : ℕ → Point) (two : 2 ≤ n) (few : n
 
 -- ---- a ladder that passes the checks
 
-module _ (call : Call) (s : List Float) (degree : ℕ) (v : Metric) (l : Lent) (e : ladder_checks call s degree v l ≡ passes) where
-  last_two : (factor_verdict v.factor ≡ passes) × (coordinates_verdict s ≡ passes)
+module _ (call : Call) (s : List Float) (degree : ℕ) (v : Metric) (l : Lent) (e : ladder_checks call s degree v l ≡ pass) where
+  last_two : (factor_verdict v.factor ≡ pass) × (coordinates_verdict s ≡ pass)
   unfolding ladder_verdict
   last_two =
       let a = both_pass (shape_verdict (length s) degree) _ e in

@@ -3,7 +3,7 @@
 
 ghost use Rattle.std.specs.Prelude.{◌≡◌, ◌-◌, ◌/◌, ◌≤◌, length, OnOk};
 ghost use Rattle.std.specs.List.{list_any};
-ghost use Rattle.bspline.specs.Refusals.{outside, passes};
+ghost use Rattle.bspline.specs.Refusals.{outside, pass};
 ghost use Rattle.checks.specs.LadderChecks.{shape_verdict, chosen_verdict, unchosen_verdict, count_verdict, room_verdict, coordinates_verdict, ladder_verdict, Shaped, Roomy};
 
 use crate::{Call, Room};
@@ -120,7 +120,7 @@ pub fn check_ladder(
 ) -> Result<(), Refusal>
     ensures verdict { result ≡ ladder_verdict call points.now degree factor room }
     ensures shaped { OnOk result (Shaped (length points.now) degree) }
-    ensures counted { OnOk result (count_verdict call (length points.now / 3) degree ≡ passes) }
+    ensures counted { OnOk result (count_verdict call (length points.now / 3) degree ≡ pass) }
     ensures roomy { OnOk result (Roomy (length points.now / 3) degree room) }
 {
     check_shape(points.len(), degree)?;

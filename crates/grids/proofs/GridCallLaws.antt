@@ -33,15 +33,16 @@ use Rattle.checks.specs.declared.Shape.{Shape}
 use Rattle.checks.specs.declared.SurfaceCall.{SurfaceCall}
 use Rattle.checks.specs.declared.SurfaceCall.TheVariants.{Approximate, ApproximateWithin}
 use Rattle.checks.specs.GridChecks.{Grid, grid_of, grid_lent, grid_room_of, GridShaped, GridRoomy, counts_verdict}
-use Rattle.grids.specs.Grids.{grid_refused, u_parameters, v_parameters, along_u, fit_grid_by, grid_checked, grid_fit_with, grid_fit, HandsOutGrid, row_aim, column_aim, beside_rows, GridAnswer}
+use Rattle.grids.specs.declared.GridFit.{GridFit}
+use Rattle.grids.specs.Grids.{grid_refused, u_parameters, v_parameters, along_u, fit_grid_by, grid_checked, grid_fit_with, grid_fit, HandsOutGrid, row_aim, column_aim, beside_rows}
 use Rattle.grids.specs.GridRuns.{rows_job, columns_job, behind, u_params_in, v_params_in, rows_in, columns_over, rows_result, Passed, count_of, knots_of, HasBoth, HandsBoth}
 use Rattle.grids.proofs.GridRunLaws.{has-rows_job, has-rows_saved, has-columns_job, has-columns_saved, n-most, n-least, still-long, has_other, columns_direction, grid-same, hands_grid}
 use Rattle.std.specs.Prelude.{Ok, Err}
-use Rattle.bspline.specs.Refusals.{Verdict, passes}
+use Rattle.bspline.specs.Refusals.{Verdict, pass}
 
 -- ---- both directions by their aims
 
-pub aims_pass : (call : SurfaceCall) (h : Shape) → counts_verdict call h ≡ passes → (aim_verdict (column_aim call) h.rows h.u ≡ passes) × (aim_verdict (row_aim call) h.cols h.v ≡ passes)
+pub aims_pass : (call : SurfaceCall) (h : Shape) → counts_verdict call h ≡ pass → (aim_verdict (column_aim call) h.rows h.u ≡ pass) × (aim_verdict (row_aim call) h.cols h.v ≡ pass)
 unfolding counts_verdict aim_verdict column_aim row_aim
 aims_pass (Approximate m n) h e = both_pass _ _ e
 aims_pass (ApproximateWithin t) h e = both_pass _ _ e
@@ -49,7 +50,7 @@ aims_pass (ApproximateWithin t) h e = both_pass _ _ e
 -- ---- after the checks
 
 pub passed-given : (call : SurfaceCall) (points : List Float) (h : Shape) (work : List Float) (index : List ℕ) {poles u_flat u_knots v_flat v_knots : List Float} {u_mults v_mults : List ℕ} → GridShaped (length points) h
-    → GridRoomy h (grid_room_of (grid_lent poles u_flat u_knots u_mults v_flat v_knots v_mults work index)) → counts_verdict call h ≡ passes → (work' : List Float) (index' : List ℕ) → length work' ≡ length work → length index' ≡ length index
+    → GridRoomy h (grid_room_of (grid_lent poles u_flat u_knots u_mults v_flat v_knots v_mults work index)) → counts_verdict call h ≡ pass → (work' : List Float) (index' : List ℕ) → length work' ≡ length work → length index' ≡ length index
     → Passed call points h (grid_lent poles u_flat u_knots u_mults v_flat v_knots v_mults work' index')
 passed-given call points h work index s r c work' index' e f =
     record {
@@ -80,7 +81,7 @@ module _ (factor : Float) (call : SurfaceCall) (points w : List Float) (index : 
   pub rows_has : HasJob (rows_job factor h) points w index
   rows_has = has-rows_job factor h points w index p.shaped p.room.for_work p.room.for_index v-under
 
-  pub rows_ready : HasJob (rows_job factor h) points w index × HasSaved (rows_job factor h) (behind (rows_job factor h)) w × (aim_verdict (row_aim call) h.cols h.v ≡ passes)
+  pub rows_ready : HasJob (rows_job factor h) points w index × HasSaved (rows_job factor h) (behind (rows_job factor h)) w × (aim_verdict (row_aim call) h.cols h.v ≡ pass)
   rows_ready = (rows_has, has-rows_saved factor h points w index p.shaped p.room.for_work p.room.for_index, (aims_pass call h p.counts).1)
 
   pub params_fit : h.rows + h.cols ≤ length w
@@ -120,7 +121,7 @@ module _ (factor : Float) (call : SurfaceCall) (points w : List Float) (index : 
           has-columns_job factor h points w₂ index₂ p.shaped (omega (arith, p.room.for_work, same-work)) (omega (arith, p.room.for_index, same_index)) n few u-under
           (n-least factor h points w index rows_has x stood.few) (has_other factor h points w index rows_has x stood.few w₂ index₂ e f (omega (arith, p.shaped.whole)))
 
-      pub columns_ready : HasJob (columns_job factor h n) points w₂ index₂ × HasSaved (columns_job factor h n) (behind (columns_job factor h n)) w₂ × (aim_verdict (column_aim call) h.rows h.u ≡ passes)
+      pub columns_ready : HasJob (columns_job factor h n) points w₂ index₂ × HasSaved (columns_job factor h n) (behind (columns_job factor h n)) w₂ × (aim_verdict (column_aim call) h.rows h.u ≡ pass)
       columns_ready = (
         columns_has,
         has-columns_saved factor h points w₂ index₂ p.shaped (omega (arith, p.room.for_work, same-work)) (omega (arith, p.room.for_index, same_index)) n few,
@@ -187,10 +188,10 @@ module _ (factor : Float) (call : SurfaceCall) (points w : List Float) (index : 
               ∙ kept-part rj.table.values (rj.table.values + h.cols * (h.v + 1)) w w₂ (kept_filled rj points w index rows_has x.flat m w₂ index₂ e f)
               rj.flat (rj.flat + (count_of rj x + h.v + 1)) (omega arith) (omega (arith, z))
 
-          pub columns_hand : {poles' uFlat' uKnots' vFlat' vKnots' : List Float} {uMults' vMults' : List ℕ} {a : GridAnswer}
+          pub columns_hand : {poles' uFlat' uKnots' vFlat' vKnots' : List Float} {uMults' vMults' : List ℕ} {a : GridFit}
               → HandsBoth rj x (columns_job factor h n) y w₃ poles poles' u_flat uFlat' u_knots uKnots' u_mults uMults' v_flat vFlat' v_knots vKnots' v_mults vMults' a
               → HandsOutGrid h (columns_over factor call h points w index x) (grid_lent poles u_flat u_knots u_mults v_flat v_knots v_mults w index)
-              (grid_lent poles' uFlat' uKnots' uMults' vFlat' vKnots' vMults' w₃ index₃) a
+              (grid_lent poles' uFlat' uKnots' uMults' vFlat' vKnots' vMults' w₃ index₃) (Ok a)
           unfolding made_in beside_rows
           columns_hand out =
               grid-same h (columns_over factor call h points w index x)
@@ -257,7 +258,7 @@ module _ (call : SurfaceCall) (points : List Float) (h : Shape) (v : Metric) whe
       unfolding grid_checked
       counts_stop c e = given_both ∙ ap (λ (a : Verdict). grid_checked a (fit_grid_by call g us vs)) e
 
-      pub counts_pass : (w : List Float) → counts_verdict call h ≡ passes → us ≡ u_params_in h w → vs ≡ v_params_in h w → grid_fit call g ≡ rows_result v.factor call h points w
+      pub counts_pass : (w : List Float) → counts_verdict call h ≡ pass → us ≡ u_params_in h w → vs ≡ v_params_in h w → grid_fit call g ≡ rows_result v.factor call h points w
       unfolding grid_checked fit_grid_by
       counts_pass w e a b =
           given_both

@@ -348,19 +348,19 @@ module _ (factor : Float) (h : Shape) (points w : List Float) (index : List ℕ)
       sym (length-transposed (count_of (rows_job factor h) x) (count_of (columns_job factor h n) y) (part (columns_job factor h n).poles ((columns_job factor h n).poles + pole_places (rows_job factor h) x (columns_job factor h n) y) w₃))
       ∙ ap length surface_is
 
-  pub hands_grid : {poles poles' u_flat uFlat' u_knots uKnots' v_flat vFlat' v_knots vKnots' : List Float} {u_mults uMults' v_mults vMults' : List ℕ} {r : GridAnswer}
+  pub hands_grid : {poles poles' u_flat uFlat' u_knots uKnots' v_flat vFlat' v_knots vKnots' : List Float} {u_mults uMults' v_mults vMults' : List ℕ} {r : GridFit}
       → HandsBoth (rows_job factor h) x (columns_job factor h n) y w₃ poles poles' u_flat uFlat' u_knots uKnots' u_mults uMults' v_flat vFlat' v_knots vKnots' v_mults vMults' r
       → (work work' : List Float) (i i' : List ℕ)
-      → HandsOutGrid h (grid_accepted u v) (grid_lent poles u_flat u_knots u_mults v_flat v_knots v_mults work i) (grid_lent poles' uFlat' uKnots' uMults' vFlat' vKnots' vMults' work' i') r
+      → HandsOutGrid h (grid_accepted u v) (grid_lent poles u_flat u_knots u_mults v_flat v_knots v_mults work i) (grid_lent poles' uFlat' uKnots' uMults' vFlat' vKnots' vMults' work' i') (Ok r)
   unfolding grid_answer_of grid_handed
   hands_grid {poles} {poles'} {u_flat} {uFlat'} {u_knots} {uKnots'} {v_flat} {vFlat'} {v_knots} {vKnots'} {u_mults} {uMults'} {v_mults} {vMults'} {r} out work work' i i' =
       let s : List Float = transposed (count_of (rows_job factor h) x) (count_of (columns_job factor h n) y)
       (part (columns_job factor h n).poles ((columns_job factor h n).poles + pole_places (rows_job factor h) x (columns_job factor h n) y) w₃) in
       record {
         answer =
-            out.answer
-            ∙ ap Ok
-            (fits-same (direction_fit (columns_job factor h n) y w₃) (fit_of h.u u) (direction_fit (rows_job factor h) x w₃) (fit_of h.v v)
+            ap Ok
+            (out.answer
+            ∙ fits-same (direction_fit (columns_job factor h n) y w₃) (fit_of h.u u) (direction_fit (rows_job factor h) x w₃) (fit_of h.v v)
             (fit_is (columns_job factor h n) points w₃ index₃ columns_has y over w₃ refl) (fit_is (rows_job factor h) points w index rows_has x stood w₃ same));
         poles =
             out.surface

@@ -1,5 +1,5 @@
 -- What a grid call does after its checks: the regions of the rows and of the columns in the lent slices, and the fits that stand there. Definitions only.
-use Rattle.std.specs.Prelude.{◌≡◌, List, ℕ, ◌+◌, ◌-◌, ◌*◌, ◌≤◌, length, Float, Ok}
+use Rattle.std.specs.Prelude.{◌≡◌, List, ℕ, ◌+◌, ◌-◌, ◌*◌, ◌≤◌, length, Float}
 use Rattle.places.specs.Places.{laid}
 use Rattle.places.specs.Regions.{part}
 use Rattle.geometry.specs.Doubles.{at}
@@ -15,9 +15,10 @@ use Rattle.making.specs.HandedOut.{HasKnotsOut, HandedKnots}
 use Rattle.making.specs.Runs.{standing_in}
 use Rattle.checks.specs.declared.Shape.{Shape}
 use Rattle.checks.specs.declared.SurfaceCall.{SurfaceCall}
-use Rattle.grids.specs.Grids.{GridResult, row_aim, column_aim, beside_rows, after_rows, along_v, along_u, GridAnswer}
+use Rattle.grids.specs.declared.GridFit.{GridFit}
+use Rattle.grids.specs.Grids.{GridResult, row_aim, column_aim, beside_rows, after_rows, along_v, along_u}
 use Rattle.checks.specs.GridChecks.{GridLent, GridShaped, GridRoomy, grid_room_of, counts_verdict}
-use Rattle.bspline.specs.Refusals.{passes}
+use Rattle.bspline.specs.Refusals.{pass}
 
 -- The rows' regions: u's parameters, v's parameters, and then the rest one after the other.
 abbrev pub rows_job : Float → Shape → Job
@@ -95,7 +96,7 @@ rows_result f call h points work =
 pub record Passed (call : SurfaceCall) (points : List Float) (h : Shape) (l : GridLent) : Type 0 where
   pub shaped : GridShaped (length points) h
   pub room : GridRoomy h (grid_room_of l)
-  pub counts : counts_verdict call h ≡ passes
+  pub counts : counts_verdict call h ≡ pass
 
 -- ---- handing out
 
@@ -127,8 +128,8 @@ pub record HasBoth (rows : Job) (x : Standing) (columns : Job) (y : Standing) (w
 
 -- what is handed out of them
 pub record HandsBoth (rows : Job) (x : Standing) (columns : Job) (y : Standing) (work poles poles' uflat uflat' uknots uknots' : List Float) (umults umults' : List ℕ)
-    (vflat vflat' vknots vknots' : List Float) (vmults vmults' : List ℕ) (r : GridAnswer) : Type 0 where
-  pub answer : r ≡ Ok (record { u = direction_fit columns y work; v = direction_fit rows x work })
+    (vflat vflat' vknots vknots' : List Float) (vmults vmults' : List ℕ) (r : GridFit) : Type 0 where
+  pub answer : r ≡ record { u = direction_fit columns y work; v = direction_fit rows x work }
   pub surface :
       poles' ≡ laid 0 (pole_places rows x columns y)
       (at (transposed (count_of rows x) (count_of columns y) (part columns.poles (columns.poles + pole_places rows x columns y) work))) poles

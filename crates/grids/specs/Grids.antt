@@ -1,5 +1,5 @@
 -- The grid calls: their refusals, answers, and each place of each lent slice at exit. Definitions only.
-use Rattle.std.specs.Prelude.{ℕ, ◌+◌, ◌-◌, ◌*◌, ◌≡◌, true, List, length, take, Float, Ok, Err}
+use Rattle.std.specs.Prelude.{ℕ, ◌+◌, ◌-◌, ◌*◌, ◌≡◌, true, List, length, take, Result, Ok, Err, Float}
 use Rattle.std.proofs.Math.Option.{Option, none, some}
 use Rattle.std.specs.Float.{binary64}
 use Rattle.std.specs.Float.Ieee.{of_bits}
@@ -7,7 +7,8 @@ use Rattle.places.specs.Places.{laid}
 use Rattle.geometry.specs.Doubles.{◌⊗◌, nought, at}
 use Rattle.bspline.specs.declared.Refusal.{Refusal}
 use Rattle.bspline.specs.declared.Refusal.TheVariants.{ConfusedPoints}
-use Rattle.bspline.specs.Refusals.{number_of, Verdict, passes}
+use Rattle.bspline.specs.Refusals.{Verdict, number_of}
+use Rattle.bspline.specs.Reader.{number_in}
 use Rattle.knots.specs.Parameters.{shared_parameters}
 use Rattle.knots.specs.Knots.{distinct_knots, knot_at, multiplicity_at}
 use Rattle.tables.specs.BasisTable.{basis_table}
@@ -110,7 +111,7 @@ grid_answer_of h (grid_refused c) = Err c
 grid_answer_of h (grid_accepted u v) = Ok (record { u = fit_of h.u u; v = fit_of h.v v })
 
 -- document 01's number of a result: 0 where it is a fit
-unfoldable pub grid_result_number : GridResult → ℕ
+abbrev pub grid_result_number : GridResult → ℕ
 grid_result_number (grid_accepted u v) = 0
 grid_result_number (grid_refused c) = number_of c
 

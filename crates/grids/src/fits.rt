@@ -5,12 +5,13 @@ ghost use Rattle.checks.specs.GridChecks.{grid_of, grid_lent, grid_room_of, Grid
 ghost use Rattle.grids.specs.Grids.{grid_fit, HandsOutGrid};
 ghost use Rattle.grids.specs.GridRuns.{rows_job, rows_result, columns_over, Passed};
 
-use crate::GridAnswer;
-use bspline::{Refusal, Verdict};
+use crate::GridFit;
+use bspline::Refusal;
+use checks::grid::check_counts;
 use checks::{Shape, SurfaceCall};
 use fitting::Job;
 use knots::Metric;
-use making::{Made, Standing};
+use making::Standing;
 
 // The columns' fit over the rows' fit x, which stands in the work.
 fn fit_columns(
@@ -28,7 +29,7 @@ fn fit_columns(
     vmults: &mut [u32],
     work: &mut [f64],
     index: &mut [usize],
-) -> GridAnswer
+) -> Result<GridFit, Refusal>
     requires { Passed call points.now shape (grid_lent poles.old uflat.old uknots.old umults.old vflat.old vknots.old vmults.old work.old index.old) × (rows ≡ rows_job rows.factor shape)
         × StandsIn (rows_job rows.factor shape) points.now work.old index.old x }
     ensures { HandsOutGrid shape (columns_over rows.factor call shape points.now work.old index.old x)
@@ -39,19 +40,11 @@ fn fit_columns(
     tables::basis_table::fill_table(work, index, rows.table, flat, flat + x.flat, rows.params);
     let columns = crate::jobs::columns_job(shape, rows, x.flat - shape.v - 1);
     let saved = columns.fresh + shape.rows;
-    match making::make_direction(
-        work,
-        index,
-        points,
-        columns,
-        crate::jobs::column_aim(call),
-        saved,
-    ) {
-        Made::Fails(c) => GridAnswer::Refused(c),
-        Made::Stands(y) => crate::output::hand_both(
-            work, rows, x, columns, y, poles, uflat, uknots, umults, vflat, vknots, vmults,
-        ),
-    }
+    let aim = crate::jobs::column_aim(call);
+    let y = making::make_direction(work, index, points, columns, aim, saved)?;
+    Ok(crate::output::hand_both(
+        work, rows, x, columns, y, poles, uflat, uknots, umults, vflat, vknots, vmults,
+    ))
 }
 
 // The rows' fit, and the columns' over it.
@@ -69,7 +62,7 @@ fn fit_rows(
     vmults: &mut [u32],
     work: &mut [f64],
     index: &mut [usize],
-) -> GridAnswer
+) -> Result<GridFit, Refusal>
     requires { Passed call points.now shape (grid_lent poles.old uflat.old uknots.old umults.old vflat.old vknots.old vmults.old work.old index.old) }
     ensures { HandsOutGrid shape (rows_result factor call shape points.now work.old)
         (grid_lent poles.old uflat.old uknots.old umults.old vflat.old vknots.old vmults.old work.old index.old)
@@ -77,13 +70,12 @@ fn fit_rows(
 {
     let rows = crate::jobs::rows_job(shape, factor);
     let saved = rows.fresh + shape.cols;
-    match making::make_direction(work, index, points, rows, crate::jobs::row_aim(call), saved) {
-        Made::Fails(c) => GridAnswer::Refused(c),
-        Made::Stands(x) => fit_columns(
-            points, shape, call, rows, x, poles, uflat, uknots, umults, vflat, vknots, vmults,
-            work, index,
-        ),
-    }
+    let aim = crate::jobs::row_aim(call);
+    let x = making::make_direction(work, index, points, rows, aim, saved)?;
+    fit_columns(
+        points, shape, call, rows, x, poles, uflat, uknots, umults, vflat, vknots, vmults, work,
+        index,
+    )
 }
 
 // The call on a grid that passed the checks up to 10: 5, then 3 and 4, then the fits.
@@ -101,7 +93,7 @@ pub fn fit_passed(
     vmults: &mut [u32],
     work: &mut [f64],
     index: &mut [usize],
-) -> GridAnswer
+) -> Result<GridFit, Refusal>
     requires { GridShaped (length points.now) shape × GridRoomy shape (grid_room_of (grid_lent poles.old uflat.old uknots.old umults.old vflat.old vknots.old vmults.old work.old index.old)) }
     ensures { HandsOutGrid shape (grid_fit call (grid_of points.now shape metric))
         (grid_lent poles.old uflat.old uknots.old umults.old vflat.old vknots.old vmults.old work.old index.old)
@@ -110,7 +102,7 @@ pub fn fit_passed(
     let rows = shape.rows;
     let cols = shape.cols;
     if !knots::parameters::shared_parameters(points, cols, 1, rows, cols, metric, work) {
-        return GridAnswer::Refused(Refusal::ConfusedPoints);
+        return Err(Refusal::ConfusedPoints);
     }
     if !knots::parameters::shared_parameters(
         points,
@@ -121,24 +113,22 @@ pub fn fit_passed(
         metric,
         &mut work[rows..],
     ) {
-        return GridAnswer::Refused(Refusal::ConfusedPoints);
+        return Err(Refusal::ConfusedPoints);
     }
-    match checks::grid::check_counts(call, shape) {
-        Verdict::Stop(c) => GridAnswer::Refused(c),
-        Verdict::Pass => fit_rows(
-            points,
-            shape,
-            metric.factor,
-            call,
-            poles,
-            uflat,
-            uknots,
-            umults,
-            vflat,
-            vknots,
-            vmults,
-            work,
-            index,
-        ),
-    }
+    check_counts(call, shape)?;
+    fit_rows(
+        points,
+        shape,
+        metric.factor,
+        call,
+        poles,
+        uflat,
+        uknots,
+        umults,
+        vflat,
+        vknots,
+        vmults,
+        work,
+        index,
+    )
 }

@@ -7,7 +7,7 @@ ghost use Rattle.geometry.specs.Points.{point_at, points_of};
 ghost use Rattle.tables.specs.Directions.{transposed};
 ghost use Rattle.grids.specs.GridRuns.{HasBoth, HandsBoth};
 
-use crate::{GridAnswer, GridFit};
+use crate::GridFit;
 use fitting::{Fit, Job};
 use making::Standing;
 
@@ -50,7 +50,7 @@ pub fn hand_both(
     vflat: &mut [f64],
     vknots: &mut [f64],
     vmults: &mut [u32],
-) -> GridAnswer
+) -> GridFit
     requires { HasBoth rows x columns y work.now poles.old uflat.old uknots.old umults.old vflat.old vknots.old vmults.old }
     ensures { HandsBoth rows x columns y work.now poles.old poles.new
         uflat.old uflat.new uknots.old uknots.new umults.old umults.new
@@ -63,20 +63,18 @@ pub fn hand_both(
     surface_poles(work, columns.poles, n, m, poles);
     let u = making::output::hand_knots(work, columns.flat, m, p, uflat, uknots, umults);
     let v = making::output::hand_knots(work, rows.flat, n, q, vflat, vknots, vmults);
-    let mark = y.mark;
-    let other = x.mark;
-    GridAnswer::Fitted(GridFit {
+    GridFit {
         u: Fit {
-            mark,
+            mark: y.mark,
             poles: m,
             knots: u,
             unreadable: y.unreadable,
         },
         v: Fit {
-            mark: other,
+            mark: x.mark,
             poles: n,
             knots: v,
             unreadable: x.unreadable,
         },
-    })
+    }
 }

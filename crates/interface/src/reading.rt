@@ -1,7 +1,7 @@
 // The reader.
 ghost use Rattle.telling.specs.ToldReading.{ToldReads};
 
-use bspline::Reading;
+use bspline::curve::Curve;
 
 // A point of a curve: its three coordinates in the first places of `out`, or the refusal's number.
 #[unsafe(no_mangle)]
@@ -18,9 +18,15 @@ pub extern "C" fn nigorzai_read(
     if out.len() < 3 {
         return 9;
     }
-    match bspline::reader::read(poles, degree, knots, mults, u) {
-        Reading::Refused(c) => c.number(),
-        Reading::Read(q) => {
+    let curve = Curve {
+        poles,
+        degree,
+        knots,
+        mults,
+    };
+    match curve.read(u) {
+        Err(c) => c.number(),
+        Ok(q) => {
             geometry::put_point(out, 0, q);
             0
         }

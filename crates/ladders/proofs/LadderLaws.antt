@@ -33,7 +33,7 @@ use Rattle.ladders.specs.Ladders.{ladder_fit, fit_with, result_of, answer_of, ha
 use Rattle.fitting.proofs.ToleranceLaws.{Lawful, ladder_lawful, alone-kept, within-kept, poles_of, no_more, spread_again}
 use Rattle.making.proofs.HandedLaws.{From, taken, refined_from, refined_mark, spread_mark, interpolated_mark, alone_cases}
 use Rattle.std.specs.Prelude.{Ok, Err}
-use Rattle.bspline.specs.Refusals.{Verdict, passes, ◌next◌}
+use Rattle.bspline.specs.Refusals.{Verdict, pass, ◌next◌}
 
 -- as many parameters as points
 pub params-long : (v : Metric) (n : ℕ) (point : ℕ → Point) (params : List Float) → point_parameters v n point ≡ some params → length params ≡ n
@@ -64,32 +64,32 @@ stopped : (c : Refusal) (x : FitResult) (r : Answer) (degree : ℕ) → r ≡ an
 unfolding answer_of
 stopped c x r degree e = e
 
-confused : (factor : Float) (s : List Float) (degree : ℕ) (fit : Direction → FitResult) (r : Answer) → r ≡ answer_of degree (passes next (fit_with factor s degree fit none)) → r ≡ Err ConfusedPoints
+confused : (factor : Float) (s : List Float) (degree : ℕ) (fit : Direction → FitResult) (r : Answer) → r ≡ answer_of degree (pass next (fit_with factor s degree fit none)) → r ≡ Err ConfusedPoints
 unfolding answer_of fit_with
 confused factor s degree fit r e = e
 
 module _ (call : Call) (fit : Direction → Marked) (by : (d : Direction) → fit_by call d ≡ Ok (fit d)) (factor : Float) (s : List Float) (degree : ℕ) (params : List Float) where
-  result_is : passes next (fit_with factor s degree (fit_by call) (some params)) ≡ Ok (fit (ladder factor s degree params))
+  result_is : pass next (fit_with factor s degree (fit_by call) (some params)) ≡ Ok (fit (ladder factor s degree params))
   unfolding fit_with
   result_is = by (ladder factor s degree params)
 
-  accepted-answer : (r : Answer) → r ≡ answer_of degree (passes next (fit_with factor s degree (fit_by call) (some params))) → r ≡ Ok (fit_of degree (fit (ladder factor s degree params)))
+  accepted-answer : (r : Answer) → r ≡ answer_of degree (pass next (fit_with factor s degree (fit_by call) (some params))) → r ≡ Ok (fit_of degree (fit (ladder factor s degree params)))
   unfolding answer_of
   accepted-answer r e = e ∙ ap (answer_of degree) result_is
 
-  accepted-flat : (xs ys : List Float) → xs ≡ handed_flat (passes next (fit_with factor s degree (fit_by call) (some params))) ys
+  accepted-flat : (xs ys : List Float) → xs ≡ handed_flat (pass next (fit_with factor s degree (fit_by call) (some params))) ys
       → xs ≡ laid 0 (length (unmarked (fit (ladder factor s degree params))).flat) (at (unmarked (fit (ladder factor s degree params))).flat) ys
   unfolding handed
   accepted-flat xs ys e = e ∙ ap (λ (x : FitResult). handed_flat x ys) result_is
 
-  accepted-poles : (xs ys : List Float) → xs ≡ handed_poles (passes next (fit_with factor s degree (fit_by call) (some params))) ys
+  accepted-poles : (xs ys : List Float) → xs ≡ handed_poles (pass next (fit_with factor s degree (fit_by call) (some params))) ys
       → xs ≡ laid 0 (length (unmarked (fit (ladder factor s degree params))).poles) (at (unmarked (fit (ladder factor s degree params))).poles) ys
   unfolding handed
   accepted-poles xs ys e = e ∙ ap (λ (x : FitResult). handed_poles x ys) result_is
 
 module _ (v : Metric) (s : List Float) (degree : ℕ) (l l' : Lent) (r : Answer) (t : Float)
     (refinement : Direction → Option Candidate) (fit : Direction → Marked) (keeps : Keeps t refinement fit) where
-  -- an Ok ladder: its parameters are there
+  -- an accepted ladder: its parameters are there
   module _ (params : List Float) (n : length params ≡ point_count s) (under : degree + 1 ≤ point_count s) (room : Roomy (point_count s) degree (room_of l))
       (answer : r ≡ Ok (fit_of degree (fit (ladder v.factor s degree params))))
       (flat : l'.flat ≡ laid 0 (length (unmarked (fit (ladder v.factor s degree params))).flat) (at (unmarked (fit (ladder v.factor s degree params))).flat) l.flat)
@@ -177,7 +177,7 @@ module _ (v : Metric) (s : List Float) (degree : ℕ) (l l' : Lent) (r : Answer)
       }
 
   -- who hands a call's result out keeps demand 3. The slices that the call was judged by are m: those that were lent, or none.
-  pub kept_by-hands : (call : Call) (m : Lent) → ((d : Direction) → fit_by call d ≡ Ok (fit d)) → (ladder_checks call s degree v m ≡ passes → ladder_checks call s degree v l ≡ passes)
+  pub kept_by-hands : (call : Call) (m : Lent) → ((d : Direction) → fit_by call d ≡ Ok (fit d)) → (ladder_checks call s degree v m ≡ pass → ladder_checks call s degree v l ≡ pass)
       → HandsOut degree (result_of call s degree v m) l l' r → LadderKept v s degree t (refinement (ladder_of v s degree)) l' r
   unfolding ladder_fit result_of
   kept_by-hands call m by lends h = go (ladder_checks call s degree v m) refl (point_parameters v (point_count s) (point_at s)) refl h.answer h.flat h.poles
@@ -242,12 +242,12 @@ keeps-within t =
 
 -- Demand 3 needs no proof of the program: it follows from the call's equations.
 module _ (s : List Float) (degree : ℕ) (t : Float) (v : Metric) (l l' : Lent) (r : Answer) where
-  pub within-handed : (m : Lent) → (ladder_checks (ApproximateWithin t) s degree v m ≡ passes → ladder_checks (ApproximateWithin t) s degree v l ≡ passes)
+  pub within-handed : (m : Lent) → (ladder_checks (ApproximateWithin t) s degree v m ≡ pass → ladder_checks (ApproximateWithin t) s degree v l ≡ pass)
       → HandsOut degree (result_of (ApproximateWithin t) s degree v m) l l' r → LadderKept v s degree t (fit_with_refined_knots (ladder_of v s degree) t) l' r
   unfolding fit_by
   within-handed m = kept_by-hands v s degree l l' r t (λ d. fit_with_refined_knots d t) (λ d. fit_within d t) (keeps-within t) (ApproximateWithin t) m (λ d. refl)
 
-  pub spread-handed : (m : Lent) → (ladder_checks (SearchSpread t) s degree v m ≡ passes → ladder_checks (SearchSpread t) s degree v l ≡ passes)
+  pub spread-handed : (m : Lent) → (ladder_checks (SearchSpread t) s degree v m ≡ pass → ladder_checks (SearchSpread t) s degree v l ≡ pass)
       → HandsOut degree (result_of (SearchSpread t) s degree v m) l l' r → LadderKept v s degree t none l' r
   unfolding fit_by
   spread-handed m = kept_by-hands v s degree l l' r t (λ d. none) (λ d. spread_alone d t) (keeps_alone t) (SearchSpread t) m (λ d. refl)
@@ -259,7 +259,7 @@ module _ (s : List Float) (degree : ℕ) (t : Float) (v : Metric) (l l' : Lent) 
   searches-spread c = record { call = c; kept = spread-handed l (λ e. e) c.hands }
 
 -- ---- two calls of the spread search alone
-spread-answer : (factor : Float) (s : List Float) (degree : ℕ) (params : List Float) (t : Float) (r : Answer) → r ≡ answer_of degree (passes next (fit_with factor s degree (fit_by (SearchSpread t)) (some params))) → r ≡ Ok (fit_of degree (spread_alone (ladder factor s degree params) t))
+spread-answer : (factor : Float) (s : List Float) (degree : ℕ) (params : List Float) (t : Float) (r : Answer) → r ≡ answer_of degree (pass next (fit_with factor s degree (fit_by (SearchSpread t)) (some params))) → r ≡ Ok (fit_of degree (spread_alone (ladder factor s degree params) t))
 unfolding fit_by
 spread-answer factor s degree params t r e = accepted-answer (SearchSpread t) (λ d. spread_alone d t) (λ d. refl) factor s degree params r e
 

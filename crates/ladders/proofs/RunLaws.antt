@@ -35,7 +35,7 @@ use Rattle.ladders.specs.LadderJob.{ladder_job}
 use Rattle.making.specs.Runs.{marked_as, standing_in, made_in, Makes, Made}
 use Rattle.making.proofs.MakeLaws.{fit_same, unmarked_as, mark_as}
 use Rattle.std.specs.Prelude.{Ok, Err}
-use Rattle.bspline.specs.Refusals.{Verdict, passes, ◌next◌}
+use Rattle.bspline.specs.Refusals.{Verdict, pass, ◌next◌}
 use Rattle.bspline.specs.Reader.{number_in}
 
 module _ (j : Job) (points w : List Float) (index : List ℕ) (m : ℕ) (a : Marked) (stands : candidate_in j points (m + j.table.degree + 1) w index ≡ unmarked a) (one : j.given.lines ≡ 1) (inside : j.flat + (m + j.table.degree + 1) ≤ length w) where
@@ -156,13 +156,13 @@ module _ (v : Metric) (s : List Float) (degree : ℕ) (fit : Direction → FitRe
 -- ---- a whole call
 
 number-answer_of : (degree : ℕ) (fit : FitResult) → number_in (answer_of degree fit) ≡ number_in fit
-unfolding number_in answer_of
+unfolding answer_of
 number-answer_of degree (Err c) = refl
 number-answer_of degree (Ok a) = refl
 
 module _ (call : Call) (s : List Float) (degree : ℕ) (v : Metric) where
   pub call-refused : (c : Refusal) (l : Lent) → Err c ≡ ladder_checks call s degree v l → LadderCall call s degree v l l (Err c)
-  unfolding result_of answer_of number_in handed cleared
+  unfolding result_of answer_of handed cleared
   call-refused c l e =
       let q : result_of call s degree v l ≡ Err c = ap (λ (w : Verdict). w next ladder_fit v s degree (fit_by call)) (sym e) in
       record {
@@ -173,7 +173,7 @@ module _ (call : Call) (s : List Float) (degree : ℕ) (v : Metric) where
       }
 
   pub call_passed : {poles poles' flat flat' knots knots' work work₁ : List Float} {mults mults' index index₁ : List ℕ} {r : Answer}
-      → passes ≡ ladder_checks call s degree v (lent poles flat knots mults work index)
+      → pass ≡ ladder_checks call s degree v (lent poles flat knots mults work index)
       → HandsOut degree (ladder_fit v s degree (fit_by call)) (lent poles flat knots mults work index) (lent poles' flat' knots' mults' work₁ index₁) r
       → (work' : List Float) (index' : List ℕ) → work' ≡ replicate (length work) nought → index' ≡ replicate (length index) 0
       → LadderCall call s degree v (lent poles flat knots mults work index) (lent poles' flat' knots' mults' work' index') r

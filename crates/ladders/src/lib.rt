@@ -2,7 +2,7 @@
 #![tactic(auto)]
 
 ghost use Rattle.std.specs.Prelude.{◌≡◌, ◌-◌, ◌*◌, ◌/◌, ◌≤◌, length};
-ghost use Rattle.bspline.specs.Refusals.{passes};
+ghost use Rattle.bspline.specs.Refusals.{pass};
 ghost use Rattle.checks.specs.LadderChecks.{Roomy, Shaped, lent, room_of, count_verdict};
 ghost use Rattle.making.specs.Results.{fit_by};
 ghost use Rattle.ladders.specs.Ladders.{ladder_fit, HandsOut, LadderCall, Interpolates, Approximates, ApproximatesWithin, SearchesSpread};
@@ -69,7 +69,7 @@ fn hand_made(
     work: &mut [f64],
     index: &mut [usize],
 ) -> Result<Fit, Refusal>
-    requires has_job { HasJob job points.now work.old index.old × (count_verdict call job.table.count job.table.degree ≡ passes) × (job.given.lines ≡ 1) }
+    requires has_job { HasJob job points.now work.old index.old × (count_verdict call job.table.count job.table.degree ≡ pass) × (job.given.lines ≡ 1) }
     requires roomy { Roomy job.table.count job.table.degree (room_of (lent poles.old flat.old knots.old mults.old work.old index.old)) }
     ensures { HandsOut job.table.degree (fit_by call (direction_of job points.now work.old index.old))
         (lent poles.old flat.old knots.old mults.old work.old index.old)
@@ -102,7 +102,7 @@ fn fit_passed(
     work: &mut [f64],
     index: &mut [usize],
 ) -> Result<Fit, Refusal>
-    requires shaped { Shaped (length points.now) degree × (count_verdict call (length points.now / 3) degree ≡ passes) }
+    requires shaped { Shaped (length points.now) degree × (count_verdict call (length points.now / 3) degree ≡ pass) }
     requires roomy { Roomy (length points.now / 3) degree (room_of (lent poles.old flat.old knots.old mults.old work.old index.old)) }
     ensures { HandsOut degree (ladder_fit metric points.now degree (fit_by call))
         (lent poles.old flat.old knots.old mults.old work.old index.old)

@@ -23,7 +23,7 @@ use Rattle.checks.proofs.CheckLaws.{count-chosen}
 use Rattle.making.specs.Results.{chosen_or, fit_by}
 use Rattle.making.proofs.HandedLaws.{FitOn, From, Sized, refined_from, spread-fit, spread_sized}
 use Rattle.std.specs.Prelude.{Ok}
-use Rattle.bspline.specs.Refusals.{passes}
+use Rattle.bspline.specs.Refusals.{pass}
 
 module _ (factor : Float) (s : List Float) (degree : ℕ) (params : List Float) where
   abbrev along : Direction
@@ -64,7 +64,7 @@ module _ (factor : Float) (s : List Float) (degree : ℕ) (params : List Float) 
         go none p q = let z : ◌≡◌ {A = ℕ} 0 1 = cc in absurd (omega arith)
         go (some f) p q = let r : chosen f ≡ a = cc in subst (λ (b : Marked). FitOn P along (unmarked b)) r (spread-has count h f p)
 
-    pub call-fit : (call : Call) → 1 ≤ degree → count_verdict call (length params) degree ≡ passes → (a : Marked) → fit_by call along ≡ Ok a → FitOn P along (unmarked a)
+    pub call-fit : (call : Call) → 1 ≤ degree → count_verdict call (length params) degree ≡ pass → (a : Marked) → fit_by call along ≡ Ok a → FitOn P along (unmarked a)
     unfolding fit_by unmarked
     call-fit Interpolate low e a q = let r : interpolated (interpolate along) ≡ a = cc in subst (λ (b : Marked). FitOn P along (unmarked b)) r through-fit
     call-fit (Approximate count) low e a q = chosen-fit count _ (count-chosen count (length params) degree e low).1 a q
@@ -72,7 +72,7 @@ module _ (factor : Float) (s : List Float) (degree : ℕ) (params : List Float) 
     call-fit (SearchSpread t) low e a q = let r : spread_alone along t ≡ a = cc in subst (λ (b : Marked). FitOn P along (unmarked b)) r (alone-fit t)
 
   -- so its lengths are right
-  pub call_from : degree < length params → (call : Call) → 1 ≤ degree → count_verdict call (length params) degree ≡ passes → (a : Marked) → fit_by call along ≡ Ok a → From along (unmarked a)
+  pub call_from : degree < length params → (call : Call) → 1 ≤ degree → count_verdict call (length params) degree ≡ pass → (a : Marked) → fit_by call along ≡ Ok a → From along (unmarked a)
   unfolding ladder
   call_from under =
       let c = length-averaged params degree in

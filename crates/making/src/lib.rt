@@ -5,7 +5,7 @@ pub mod output;
 
 ghost use Rattle.std.specs.Prelude.{◌≡◌, ◌≤◌, ◌<◌, length};
 ghost use Rattle.std.proofs.Math.Option.{some};
-ghost use Rattle.bspline.specs.Refusals.{passes};
+ghost use Rattle.bspline.specs.Refusals.{pass};
 ghost use Rattle.checks.specs.declared.Call.TheVariants.{Interpolate, Approximate, ApproximateWithin, SearchSpread};
 ghost use Rattle.tables.specs.Measures.{measured};
 ghost use Rattle.fitting.specs.Within.{fewer_or, fit_within_fewest};
@@ -190,7 +190,7 @@ pub fn make_direction(
     aim: Aim,
     saved: usize,
 ) -> Result<Standing, Refusal>
-    requires { HasJob job points.now work.old index.old × HasSaved job saved work.old × (aim_verdict aim job.table.count job.table.degree ≡ passes) }
+    requires { HasJob job points.now work.old index.old × HasSaved job saved work.old × (aim_verdict aim job.table.count job.table.degree ≡ pass) }
     ensures { Makes job points.now (fit_to aim (direction_of job points.now work.old index.old))
         work.old work.new index.old index.new result }
 {
@@ -202,7 +202,7 @@ pub fn make_direction(
 
 // By what the call asks for.
 pub fn make(work: &mut [f64], index: &mut [usize], points: &[f64], job: Job, call: Call) -> Result<Standing, Refusal>
-    requires { HasJob job points.now work.old index.old × (count_verdict call job.table.count job.table.degree ≡ passes) }
+    requires { HasJob job points.now work.old index.old × (count_verdict call job.table.count job.table.degree ≡ pass) }
     ensures { Makes job points.now (fit_by call (direction_of job points.now work.old index.old))
         work.old work.new index.old index.new result }
 {

@@ -36,7 +36,7 @@ use Rattle.grids.specs.Grids.{GridResult, u_parameters, v_parameters, along_v, a
 use Rattle.grids.proofs.SurfaceLaws.{length-transposed}
 use Rattle.checks.proofs.GridCheckLaws.{Degrees, grid_gives, degrees-under}
 use Rattle.std.specs.Prelude.{Ok, Err}
-use Rattle.bspline.specs.Refusals.{Verdict, passes}
+use Rattle.bspline.specs.Refusals.{Verdict, pass}
 
 -- ---- a grid's direction: what its fit is, whatever the mark
 pub record Sound (d : Direction) (a : Marked) : Type 0 where
@@ -106,7 +106,7 @@ record GridKeptBy (d : Direction) (distances : GridFit → List Float) (t : Floa
   spread_passes : (f : GridFit) (x : Float) → r ≡ Ok f → f.u.mark ≡ Spread x → passes_on_spread d t f.u.poles ≡ true
   one_below_fails : (f : GridFit) (x : Float) → r ≡ Ok f → f.u.mark ≡ Spread x → Fails d t (f.u.poles - 1)
 
--- ---- an Ok grid
+-- ---- an accepted grid
 u_lawful : (g : Grid) (us vs : List Float) (v : Candidate) → Lawful (along_u g.metric.factor g.points g.shape us vs v)
 unfolding along_u
 u_lawful g us vs v = columns_lawful g.metric.factor g.points (basis_table v.flat g.shape.v vs) (pole_count g.shape.v v.flat) v.poles g.shape.u us
@@ -223,24 +223,24 @@ refused-kept g t l' r c e =
 abbrev within_of : Grid → Float → Option (List Float) → Option (List Float) → Verdict → GridResult
 within_of g t o₁ o₂ w = grid_fit_with w (fit_grid_by (ApproximateWithin t) g) o₁ o₂
 
-u_confused : (g : Grid) (t : Float) (o₂ : Option (List Float)) (k : Verdict) (r : GridAnswer) → r ≡ grid_answer_of g.shape (grid_checked passes (within_of g t none o₂ k)) → r ≡ Err ConfusedPoints
+u_confused : (g : Grid) (t : Float) (o₂ : Option (List Float)) (k : Verdict) (r : GridAnswer) → r ≡ grid_answer_of g.shape (grid_checked pass (within_of g t none o₂ k)) → r ≡ Err ConfusedPoints
 unfolding grid_checked grid_fit_with grid_answer_of
 u_confused g t o₂ k r e = e
 
-v_confused : (g : Grid) (t : Float) (us : List Float) (k : Verdict) (r : GridAnswer) → r ≡ grid_answer_of g.shape (grid_checked passes (within_of g t (some us) none k)) → r ≡ Err ConfusedPoints
+v_confused : (g : Grid) (t : Float) (us : List Float) (k : Verdict) (r : GridAnswer) → r ≡ grid_answer_of g.shape (grid_checked pass (within_of g t (some us) none k)) → r ≡ Err ConfusedPoints
 unfolding grid_checked grid_fit_with grid_answer_of
 v_confused g t us k r e = e
 
-counts_stopped : (g : Grid) (t : Float) (us vs : List Float) (c : Refusal) (r : GridAnswer) → r ≡ grid_answer_of g.shape (grid_checked passes (within_of g t (some us) (some vs) (Err c))) → r ≡ Err c
+counts_stopped : (g : Grid) (t : Float) (us vs : List Float) (c : Refusal) (r : GridAnswer) → r ≡ grid_answer_of g.shape (grid_checked pass (within_of g t (some us) (some vs) (Err c))) → r ≡ Err c
 unfolding grid_checked grid_fit_with grid_answer_of
 counts_stopped g t us vs c r e = e
 
 module _ (g : Grid) (t : Float) (l l' : GridLent) (r : GridAnswer) where
   passed-kept : (us vs : List Float) → u_parameters g ≡ some us → v_parameters g ≡ some vs → GridShaped (length g.points) g.shape → GridRoomy g.shape (grid_room_of l) → Degrees g.shape
-      → r ≡ grid_answer_of g.shape (grid_checked passes (within_of g t (some us) (some vs) passes))
-      → l'.u_flat ≡ grid_handed (λ u v. length u.flat) (λ u v. at u.flat) (grid_checked passes (within_of g t (some us) (some vs) passes)) l.u_flat
-      → l'.v_flat ≡ grid_handed (λ u v. length v.flat) (λ u v. at v.flat) (grid_checked passes (within_of g t (some us) (some vs) passes)) l.v_flat
-      → l'.poles ≡ grid_handed (λ u v. length (surface_poles g.shape u v)) (λ u v. at (surface_poles g.shape u v)) (grid_checked passes (within_of g t (some us) (some vs) passes)) l.poles
+      → r ≡ grid_answer_of g.shape (grid_checked pass (within_of g t (some us) (some vs) pass))
+      → l'.u_flat ≡ grid_handed (λ u v. length u.flat) (λ u v. at u.flat) (grid_checked pass (within_of g t (some us) (some vs) pass)) l.u_flat
+      → l'.v_flat ≡ grid_handed (λ u v. length v.flat) (λ u v. at v.flat) (grid_checked pass (within_of g t (some us) (some vs) pass)) l.v_flat
+      → l'.poles ≡ grid_handed (λ u v. length (surface_poles g.shape u v)) (λ u v. at (surface_poles g.shape u v)) (grid_checked pass (within_of g t (some us) (some vs) pass)) l.poles
       → GridKept g t l' r
   unfolding grid_checked grid_fit_with fit_grid_by rows_within row_aim column_aim fit_to after_rows beside_rows grid_answer_of grid_handed distances_of
   passed-kept us vs p q shaped room degrees a b c d =
@@ -253,7 +253,7 @@ module _ (g : Grid) (t : Float) (l l' : GridLent) (r : GridAnswer) where
       }
 
   -- who hands the call's result out keeps demand 3. The slices that the call was judged by are m: those that were lent, or none.
-  pub grid-handed-kept : (m : GridLent) → (grid_checks g (grid_room_of m) ≡ passes → grid_checks g (grid_room_of l) ≡ passes) → HandsOutGrid g.shape (grid_result_of (ApproximateWithin t) g m) l l' r → GridKept g t l' r
+  pub grid-handed-kept : (m : GridLent) → (grid_checks g (grid_room_of m) ≡ pass → grid_checks g (grid_room_of l) ≡ pass) → HandsOutGrid g.shape (grid_result_of (ApproximateWithin t) g m) l l' r → GridKept g t l' r
   unfolding grid_fit grid_result_of
   grid-handed-kept m lends i = go (grid_checks g (grid_room_of m)) refl (u_parameters g) refl (v_parameters g) refl (counts_verdict (ApproximateWithin t) g.shape) refl i.answer i.u_flat i.v_flat i.poles
     where
@@ -264,10 +264,10 @@ module _ (g : Grid) (t : Float) (l l' : GridLent) (r : GridAnswer) where
           → l'.poles ≡ grid_handed (λ u v. length (surface_poles g.shape u v)) (λ u v. at (surface_poles g.shape u v)) (grid_checked w (within_of g t o₁ o₂ k)) l.poles
           → GridKept g t l' r
       go (Err c) e o₁ e₁ o₂ e₂ k e₃ a f h p = refused-kept g t l' r c (grid_stopped g c (within_of g t o₁ o₂ k) r a)
-      go passes e none e₁ o₂ e₂ k e₃ a f h p = refused-kept g t l' r ConfusedPoints (u_confused g t o₂ k r a)
-      go passes e (some us) e₁ none e₂ k e₃ a f h p = refused-kept g t l' r ConfusedPoints (v_confused g t us k r a)
-      go passes e (some us) e₁ (some vs) e₂ (Err c) e₃ a f h p = refused-kept g t l' r c (counts_stopped g t us vs c r a)
-      go passes e (some us) e₁ (some vs) e₂ passes e₃ a f h p = passed-kept us vs e₁ e₂ (grid_gives g (grid_room_of l) (lends e)).0 (grid_gives g (grid_room_of l) (lends e)).1 (degrees-under t g.shape e₃) a f h p
+      go (Ok p₀) e none e₁ o₂ e₂ k e₃ a f h p = refused-kept g t l' r ConfusedPoints (u_confused g t o₂ k r a)
+      go (Ok p₀) e (some us) e₁ none e₂ k e₃ a f h p = refused-kept g t l' r ConfusedPoints (v_confused g t us k r a)
+      go (Ok p₀) e (some us) e₁ (some vs) e₂ (Err c) e₃ a f h p = refused-kept g t l' r c (counts_stopped g t us vs c r a)
+      go (Ok p₀) e (some us) e₁ (some vs) e₂ (Ok p₁) e₃ a f h p = passed-kept us vs e₁ e₂ (grid_gives g (grid_room_of l) (lends e)).0 (grid_gives g (grid_room_of l) (lends e)).1 (degrees-under t g.shape e₃) a f h p
 
 -- Demand 3 needs no proof of the program: it follows from the call's equations.
 pub approximates_grid-within : (g : Grid) (t : Float) (l l' : GridLent) (r : GridAnswer) → GridCall (ApproximateWithin t) g l l' r → ApproximatesGridWithin g t l l' r

@@ -4,9 +4,10 @@
 ghost use Rattle.checks.specs.GridChecks.{grid_of, grid_lent};
 ghost use Rattle.grids.specs.Grids.{GridCall, ApproximatesGrid, ApproximatesGridWithin};
 
-use bspline::Verdict;
+use bspline::Refusal;
+use checks::grid::check_grid;
 use checks::{GridRoom, Shape, SurfaceCall};
-use grids::GridAnswer;
+use grids::GridFit;
 use knots::Metric;
 
 // Either of the calls.
@@ -24,7 +25,7 @@ pub fn fit_grid(
     vmults: &mut [u32],
     work: &mut [f64],
     index: &mut [usize],
-) -> GridAnswer
+) -> Result<GridFit, Refusal>
     ensures { GridCall call (grid_of points.now shape metric)
         (grid_lent poles.old uflat.old uknots.old umults.old vflat.old vknots.old vmults.old work.old index.old)
         (grid_lent poles.new uflat.new uknots.new umults.new vflat.new vknots.new vmults.new work.new index.new) result }
@@ -40,18 +41,14 @@ pub fn fit_grid(
         work: work.len(),
         index: index.len(),
     };
-    match checks::grid::check_grid(points, shape, room, metric.factor) {
-        Verdict::Stop(c) => GridAnswer::Refused(c),
-        Verdict::Pass => {
-            let r = grids::fits::fit_passed(
-                points, shape, metric, call, poles, uflat, uknots, umults, vflat, vknots, vmults,
-                work, index,
-            );
-            places::clear(work);
-            places::clear_index(index);
-            r
-        }
-    }
+    check_grid(points, shape, room, metric.factor)?;
+    let answer = grids::fits::fit_passed(
+        points, shape, metric, call, poles, uflat, uknots, umults, vflat, vknots, vmults, work,
+        index,
+    );
+    work.fill(0.0);
+    index.fill(0);
+    answer
 }
 
 // The grid's `approximate`: least squares with chosen pole counts along u and v.
@@ -70,7 +67,7 @@ pub fn approximate(
     vmults: &mut [u32],
     work: &mut [f64],
     index: &mut [usize],
-) -> GridAnswer
+) -> Result<GridFit, Refusal>
     ensures { ApproximatesGrid (grid_of points.now shape metric) ucount vcount
         (grid_lent poles.old uflat.old uknots.old umults.old vflat.old vknots.old vmults.old work.old index.old)
         (grid_lent poles.new uflat.new uknots.new umults.new vflat.new vknots.new vmults.new work.new index.new) result }
@@ -97,7 +94,7 @@ pub fn approximate_within(
     vmults: &mut [u32],
     work: &mut [f64],
     index: &mut [usize],
-) -> GridAnswer
+) -> Result<GridFit, Refusal>
     ensures { ApproximatesGridWithin (grid_of points.now shape metric) tolerance
         (grid_lent poles.old uflat.old uknots.old umults.old vflat.old vknots.old vmults.old work.old index.old)
         (grid_lent poles.new uflat.new uknots.new umults.new vflat.new vknots.new vmults.new work.new index.new) result }

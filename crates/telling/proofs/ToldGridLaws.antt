@@ -14,13 +14,14 @@ use Rattle.checks.specs.LadderChecks.{cleared}
 use Rattle.checks.specs.declared.SurfaceCall.{SurfaceCall}
 use Rattle.checks.specs.declared.SurfaceCall.TheVariants.{ApproximateWithin}
 use Rattle.checks.specs.GridChecks.{Grid, GridLent, grid_room_of, grid_checks}
-use Rattle.grids.specs.Grids.{GridResult, grid_refused, grid_fit, grid_checked, grid_result_of, grid_result_number, grid_answer_of, grid_answer_number, GridCall, GridAnswer}
+use Rattle.grids.specs.Grids.{GridResult, grid_refused, grid_fit, grid_checked, grid_result_of, grid_result_number, grid_answer_of, GridCall, GridAnswer}
 use Rattle.checks.proofs.GridCheckLaws.{grid_gives}
 use Rattle.grids.proofs.GridRunLaws.{grid-refused}
 use Rattle.surfaces.proofs.GridLaws.{grid-handed-kept}
 use Rattle.telling.specs.ToldGrid.{tellable_grid, no_grid, judged_grid, told_grid_largest, told_grid_counts, ToldGridBy, ToldGrid, ToldGridWithin}
-use Rattle.std.specs.Prelude.{Err}
-use Rattle.bspline.specs.Refusals.{Verdict, passes}
+use Rattle.std.specs.Prelude.{Ok, Err}
+use Rattle.bspline.specs.Refusals.{Verdict, pass}
+use Rattle.bspline.specs.Reader.{number_in}
 
 -- the room that the slices have
 pub few-largest : (largest : List Float) (counts : List ℕ) → length largest < 2 → tellable_grid largest counts ≡ false
@@ -36,7 +37,7 @@ enough largest counts h k =
 
 module _ (call : SurfaceCall) (g : Grid) where
   -- with nothing lent the checks stop
-  pub stops : grid_checks g (grid_room_of no_grid) ≡ passes → ⊥
+  pub stops : grid_checks g (grid_room_of no_grid) ≡ pass → ⊥
   stops e = let r = grid_gives g (grid_room_of no_grid) e in omega (arith, r.1.for_work)
 
   pub stopped-number : (c : Refusal) → Err c ≡ grid_checks g (grid_room_of no_grid) → grid_result_number (grid_refused c) ≡ grid_result_number (grid_result_of call g no_grid)
@@ -47,7 +48,7 @@ module _ (call : SurfaceCall) (g : Grid) where
   refused_untouched : (w : Verdict) → grid_checks g (grid_room_of no_grid) ≡ w → (l : GridLent) (largest : List Float) (counts : List ℕ) (r : ℕ) → r ≡ grid_result_number (grid_result_of call g no_grid)
       → ToldGridBy no_grid call g l l largest largest counts counts r
   unfolding grid_result_of grid_checked grid_answer_of cleared
-  refused_untouched passes e l largest counts r n = absurd (stops e)
+  refused_untouched (Ok p) e l largest counts r n = absurd (stops e)
   refused_untouched (Err c) e l largest counts r n =
       let q : grid_result_of call g no_grid ≡ grid_refused c = ap (λ (w : Verdict). grid_checked w (grid_fit call g)) e in
       let h = grid-refused g.shape (grid_result_of call g no_grid) c q l.work l.work l.index l.index in
@@ -69,7 +70,7 @@ module _ (call : SurfaceCall) (g : Grid) where
 
   -- room
   pub told-room : (l l' : GridLent) (largest largest' : List Float) (counts counts' : List ℕ) (a : GridAnswer) (r : ℕ) → tellable_grid largest counts ≡ true → GridCall call g l l' a
-      → r ≡ grid_answer_number a → largest' ≡ told_grid_largest a largest → counts' ≡ told_grid_counts a counts → ToldGrid call g l l' largest largest' counts counts' r
+      → r ≡ number_in a → largest' ≡ told_grid_largest a largest → counts' ≡ told_grid_counts a counts → ToldGrid call g l l' largest largest' counts counts' r
   told-room l l' largest largest' counts counts' a r e x n p q =
       let h = x.hands in
       subst (λ (b : Bool). ToldGridBy (cond b l no_grid) call g l l' largest largest' counts counts' r) (sym e)
@@ -83,7 +84,7 @@ module _ (call : SurfaceCall) (g : Grid) where
       })
 
   -- what passes the checks as it is judged passes them as it is lent
-  lends : (b : Bool) (l : GridLent) → grid_checks g (grid_room_of (cond b l no_grid)) ≡ passes → grid_checks g (grid_room_of l) ≡ passes
+  lends : (b : Bool) (l : GridLent) → grid_checks g (grid_room_of (cond b l no_grid)) ≡ pass → grid_checks g (grid_room_of l) ≡ pass
   lends true l e = e
   lends false l e = absurd (stops e)
 

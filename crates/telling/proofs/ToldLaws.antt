@@ -15,12 +15,13 @@ use Rattle.checks.specs.declared.Call.{Call}
 use Rattle.checks.specs.declared.Call.TheVariants.{ApproximateWithin, SearchSpread}
 use Rattle.checks.specs.LadderChecks.{Lent, ladder_checks, cleared}
 use Rattle.making.specs.Results.{FitResult, fit_by}
-use Rattle.ladders.specs.Ladders.{ladder_fit, checked, result_of, result_number, answer_of, answer_number, handed, handed_poles, handed_flat, handed_knots, handed_mults, LadderCall, Answer}
+use Rattle.ladders.specs.Ladders.{ladder_fit, result_of, answer_of, handed, handed_poles, handed_flat, handed_knots, handed_mults, LadderCall, Answer}
 use Rattle.checks.proofs.CheckLaws.{checks_give}
 use Rattle.ladders.proofs.LadderLaws.{within-handed, spread-handed}
 use Rattle.telling.specs.Told.{tellable, nothing, judged, told_largest, told_counts, ToldBy, Told, ToldWithin, ToldSpread}
-use Rattle.std.specs.Prelude.{Err}
-use Rattle.bspline.specs.Refusals.{Verdict, passes}
+use Rattle.std.specs.Prelude.{Ok, Err}
+use Rattle.bspline.specs.Refusals.{number_of, ◌next◌, Verdict, pass}
+use Rattle.bspline.specs.Reader.{number_in}
 
 -- the room that the slices have
 pub few-largest : (largest : List Float) (counts : List ℕ) → length largest < 1 → tellable largest counts ≡ false
@@ -36,20 +37,20 @@ enough largest counts h k =
 
 module _ (call : Call) (s : List Float) (degree : ℕ) (v : Metric) where
   -- with nothing lent the checks stop
-  pub stops : ladder_checks call s degree v nothing ≡ passes → ⊥
+  pub stops : ladder_checks call s degree v nothing ≡ pass → ⊥
   stops e = let g = checks_give call s degree v nothing e in omega (arith, g.0.least, g.2.for_poles)
 
-  pub stopped-number : (c : Refusal) → Err c ≡ ladder_checks call s degree v nothing → result_number (Err c) ≡ result_number (result_of call s degree v nothing)
-  unfolding result_of checked
-  stopped-number c e = ap (λ (w : Verdict). result_number (checked w (ladder_fit v s degree (fit_by call)))) e
+  pub stopped-number : (c : Refusal) → Err c ≡ ladder_checks call s degree v nothing → number_of c ≡ number_in (result_of call s degree v nothing)
+  unfolding result_of
+  stopped-number c e = ap (λ (w : Verdict). number_in (w next ladder_fit v s degree (fit_by call))) e
 
-  -- judged with nothing lent, the call is Err and touches nothing
-  refused_untouched : (w : Verdict) → ladder_checks call s degree v nothing ≡ w → (l : Lent) (largest : List Float) (counts : List ℕ) (r : ℕ) → r ≡ result_number (result_of call s degree v nothing)
+  -- judged with nothing lent, the call is refused and touches nothing
+  refused_untouched : (w : Verdict) → ladder_checks call s degree v nothing ≡ w → (l : Lent) (largest : List Float) (counts : List ℕ) (r : ℕ) → r ≡ number_in (result_of call s degree v nothing)
       → ToldBy nothing call s degree v l l largest largest counts counts r
-  unfolding result_of checked answer_of handed cleared
-  refused_untouched passes e l largest counts r n = absurd (stops e)
+  unfolding result_of answer_of handed cleared
+  refused_untouched (Ok p) e l largest counts r n = absurd (stops e)
   refused_untouched (Err c) e l largest counts r n =
-      let q : result_of call s degree v nothing ≡ Err c = ap (λ (w : Verdict). checked w (ladder_fit v s degree (fit_by call))) e in
+      let q : result_of call s degree v nothing ≡ Err c = ap (λ (w : Verdict). w next ladder_fit v s degree (fit_by call)) e in
       record {
         number = n;
         hands = record { answer = refl; poles = ap (λ (x : FitResult). handed_poles x l.poles) (sym q); flat = ap (λ (x : FitResult). handed_flat x l.flat) (sym q); knots = ap (λ (x : FitResult). handed_knots x l.knots) (sym q); mults = ap (λ (x : FitResult). handed_mults x l.mults) (sym q) };
@@ -60,7 +61,7 @@ module _ (call : Call) (s : List Float) (degree : ℕ) (v : Metric) where
       }
 
   -- no room
-  pub told-short : (l : Lent) (largest : List Float) (counts : List ℕ) (r : ℕ) → tellable largest counts ≡ false → r ≡ result_number (result_of call s degree v nothing)
+  pub told-short : (l : Lent) (largest : List Float) (counts : List ℕ) (r : ℕ) → tellable largest counts ≡ false → r ≡ number_in (result_of call s degree v nothing)
       → Told call s degree v l l largest largest counts counts r
   told-short l largest counts r e n =
       subst (λ (b : Bool). ToldBy (cond b l nothing) call s degree v l l largest largest counts counts r) (sym e)
@@ -68,7 +69,7 @@ module _ (call : Call) (s : List Float) (degree : ℕ) (v : Metric) where
 
   -- room
   pub told-room : (l l' : Lent) (largest largest' : List Float) (counts counts' : List ℕ) (a : Answer) (r : ℕ) → tellable largest counts ≡ true → LadderCall call s degree v l l' a
-      → r ≡ answer_number a → largest' ≡ told_largest a largest → counts' ≡ told_counts a counts → Told call s degree v l l' largest largest' counts counts' r
+      → r ≡ number_in a → largest' ≡ told_largest a largest → counts' ≡ told_counts a counts → Told call s degree v l l' largest largest' counts counts' r
   told-room l l' largest largest' counts counts' a r e x n p q =
       let h = x.hands in
       subst (λ (b : Bool). ToldBy (cond b l nothing) call s degree v l l' largest largest' counts counts' r) (sym e)
@@ -82,7 +83,7 @@ module _ (call : Call) (s : List Float) (degree : ℕ) (v : Metric) where
       })
 
   -- what passes the checks as it is judged passes them as it is lent
-  lends : (b : Bool) (l : Lent) → ladder_checks call s degree v (cond b l nothing) ≡ passes → ladder_checks call s degree v l ≡ passes
+  lends : (b : Bool) (l : Lent) → ladder_checks call s degree v (cond b l nothing) ≡ pass → ladder_checks call s degree v l ≡ pass
   lends true l e = e
   lends false l e = absurd (stops e)
 

@@ -8,8 +8,9 @@ use Rattle.checks.specs.declared.Call.TheVariants.{ApproximateWithin, SearchSpre
 use Rattle.fitting.specs.declared.Fit.{Fit}
 use Rattle.fitting.specs.Marks.{largest_deviation, mark_number}
 use Rattle.checks.specs.LadderChecks.{Lent, lent, ladder_checks, cleared}
-use Rattle.ladders.specs.Ladders.{result_of, result_number, answer_of, HandsOut, ladder_of, LadderKept, Answer}
+use Rattle.ladders.specs.Ladders.{result_of, answer_of, HandsOut, ladder_of, LadderKept, Answer}
 use Rattle.fitting.specs.Within.{fit_with_refined_knots}
+use Rattle.bspline.specs.Reader.{number_in}
 
 -- room for the largest deviation, and for mark, poles, distinct knots and unreadable deviations
 abbrev pub tellable : List Float → List ℕ → Bool
@@ -37,7 +38,7 @@ told_counts (Ok f) xs = put_fit 0 f xs
 
 -- What a ladder call for C leaves, judged by the slices m.
 pub record ToldBy (m : Lent) (call : Call) (s : List Float) (degree : ℕ) (v : Metric) (l l' : Lent) (largest largest' : List Float) (counts counts' : List ℕ) (r : ℕ) : Type 0 where
-  pub number : r ≡ result_number (result_of call s degree v m)
+  pub number : r ≡ number_in (result_of call s degree v m)
   pub hands : HandsOut degree (result_of call s degree v m) l l' (answer_of degree (result_of call s degree v m))
   pub work : l'.work ≡ cleared nought (ladder_checks call s degree v m) l.work
   pub index : l'.index ≡ cleared 0 (ladder_checks call s degree v m) l.index

@@ -1,11 +1,11 @@
 -- The reader as C sees it: the number, and the point in a lent slice. Definitions only.
 use Rattle.std.specs.Prelude.{◌≡◌, cond, List, ℕ, ltb, length, Float, Ok, Err}
 use Rattle.geometry.specs.Points.{put_point}
-use Rattle.bspline.specs.Reader.{reader_verdict, reading_of, reading_number, curve_point, flat_knots, Reading}
+use Rattle.bspline.specs.Reader.{number_in, reader_verdict, reading_of, curve_point, flat_knots, Reading}
 
 -- a reading's number, and 9 where the slice for the point is too short
 abbrev pub told_reading : List Float → Reading → ℕ
-told_reading out r = cond (ltb (length out) 3) 9 (reading_number r)
+told_reading out r = cond (ltb (length out) 3) 9 (number_in r)
 
 -- its point in the first three places
 abbrev pub point_in : List Float → Reading → List Float

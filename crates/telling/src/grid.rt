@@ -1,28 +1,32 @@
 // The grid calls.
 ghost use Rattle.std.specs.Prelude.{◌≡◌, ◌≤◌, length};
+ghost use Rattle.bspline.specs.Reader.{number_in};
 ghost use Rattle.checks.specs.GridChecks.{grid_of, grid_lent};
-ghost use Rattle.grids.specs.Grids.{grid_answer_number, grid_result_number, grid_result_of};
+ghost use Rattle.grids.specs.Grids.{grid_result_number, grid_result_of};
 ghost use Rattle.telling.specs.ToldGrid.{told_grid_largest, told_grid_counts, no_grid, ToldGrid};
 
-use bspline::Verdict;
+use bspline::Refusal;
+use checks::grid::check_grid;
 use checks::{GridRoom, Shape, SurfaceCall};
-use grids::GridAnswer;
+use grids::GridFit;
 use knots::Metric;
 
 // The number of an answer, with both marks and counts of a fit in the lent slices.
-fn tell_grid(answer: GridAnswer, largest: &mut [f64], counts: &mut [usize]) -> u32
+fn tell_grid(
+    answer: Result<GridFit, Refusal>,
+    largest: &mut [f64],
+    counts: &mut [usize],
+) -> u32
     requires { (2 ≤ length largest.old) × (8 ≤ length counts.old) }
-    ensures value { result ≡ grid_answer_number answer }
+    ensures value { result ≡ number_in answer }
     ensures largest_after { largest.new ≡ told_grid_largest answer largest.old }
     ensures counts_after { counts.new ≡ told_grid_counts answer counts.old }
 {
     match answer {
-        GridAnswer::Refused(c) => c.number(),
-        GridAnswer::Fitted(f) => {
-            let u = f.u;
-            let v = f.v;
-            super::tell_fit(u, largest, 0, counts, 0);
-            super::tell_fit(v, largest, 1, counts, 4);
+        Err(c) => c.number(),
+        Ok(f) => {
+            super::tell_fit(f.u, largest, 0, counts, 0);
+            super::tell_fit(f.v, largest, 1, counts, 4);
             0
         }
     }
@@ -43,9 +47,9 @@ fn grid_without_room(points: &[f64], shape: Shape, metric: Metric, call: Surface
         work: 0,
         index: 0,
     };
-    match checks::grid::check_grid(points, shape, room, metric.factor) {
-        Verdict::Stop(c) => c.number(),
-        Verdict::Pass => 9,
+    match check_grid(points, shape, room, metric.factor) {
+        Err(c) => c.number(),
+        Ok(()) => 9,
     }
 }
 

@@ -1,24 +1,26 @@
 // The ladder calls.
 ghost use Rattle.std.specs.Prelude.{◌≡◌, ◌≤◌, length};
+ghost use Rattle.bspline.specs.Reader.{number_in};
 ghost use Rattle.checks.specs.LadderChecks.{lent};
-ghost use Rattle.ladders.specs.Ladders.{answer_number, result_number, result_of};
+ghost use Rattle.ladders.specs.Ladders.{result_of};
 ghost use Rattle.telling.specs.Told.{told_largest, told_counts, nothing, Told};
 
-use bspline::Verdict;
+use bspline::Refusal;
+use checks::ladder::check_ladder;
 use checks::{Call, Room};
+use fitting::Fit;
 use knots::Metric;
-use ladders::Answer;
 
 // The number of an answer, with the mark and the counts of a fit in the lent slices.
-fn tell(answer: Answer, largest: &mut [f64], counts: &mut [usize]) -> u32
+fn tell(answer: Result<Fit, Refusal>, largest: &mut [f64], counts: &mut [usize]) -> u32
     requires { (1 ≤ length largest.old) × (4 ≤ length counts.old) }
-    ensures value { result ≡ answer_number answer }
+    ensures value { result ≡ number_in answer }
     ensures largest_after { largest.new ≡ told_largest answer largest.old }
     ensures counts_after { counts.new ≡ told_counts answer counts.old }
 {
     match answer {
-        Answer::Refused(c) => c.number(),
-        Answer::Fitted(f) => {
+        Err(c) => c.number(),
+        Ok(f) => {
             super::tell_fit(f, largest, 0, counts, 0);
             0
         }
@@ -27,7 +29,7 @@ fn tell(answer: Answer, largest: &mut [f64], counts: &mut [usize]) -> u32
 
 // The number of a call that has no room for its answer.
 fn without_room(points: &[f64], degree: usize, metric: Metric, call: Call) -> u32
-    ensures { result ≡ result_number (result_of call points.now degree metric nothing) }
+    ensures { result ≡ number_in (result_of call points.now degree metric nothing) }
 {
     let room = Room {
         poles: 0,
@@ -37,10 +39,9 @@ fn without_room(points: &[f64], degree: usize, metric: Metric, call: Call) -> u3
         work: 0,
         index: 0,
     };
-    let counts = checks::ladder::check_count(call, points.len() / 3, degree);
-    match checks::ladder::check_ladder(points, degree, counts, room, metric.factor) {
-        Verdict::Stop(c) => c.number(),
-        Verdict::Pass => 9,
+    match check_ladder(call, points, degree, room, metric.factor) {
+        Err(c) => c.number(),
+        Ok(()) => 9,
     }
 }
 

@@ -7,12 +7,12 @@ use Rattle.fitting.specs.Jobs.{direction_of}
 use Rattle.making.specs.Runs.{Makes}
 use Rattle.checks.proofs.CheckLaws.{count-chosen}
 use Rattle.making.proofs.make.Goals as goal
-use Rattle.bspline.specs.Refusals.{passes}
+use Rattle.bspline.specs.Refusals.{pass}
 
 pub make_chosen-requires : goal.make_chosen-requires
 make_chosen-requires c =
     let a = c.args in
-    let v = subst (λ (x : Call). count_verdict x a.job.table.count a.job.table.degree ≡ passes) c.in-Approximate.is c.requires.1 in
+    let v = subst (λ (x : Call). count_verdict x a.job.table.count a.job.table.degree ≡ pass) c.in-Approximate.is c.requires.1 in
     let b = count-chosen c.in-Approximate.count a.job.table.count a.job.table.degree v c.requires.0.low in
     (c.requires.0, b.0, b.1)
 

@@ -1,35 +1,25 @@
 -- The checks' verdict is the contract's; where it passes, the fit is handed out and then the work and the index are cleared. Assumes nothing.
-use mathlib.Core.Path.{◌≡◌, sym, ◌∙◌, ap}
-use Prim.Native.Nat.{ℕ}
-use lib.ListN.{length, replicate}
+use Rattle.std.proofs.Common.{rules, ◌≡◌, ◌∙◌, sym, length, replicate, Err}
 use Rattle.geometry.specs.Doubles.{nought}
-use Rattle.checks.specs.GridChecks.{grid_of, grid_lent, grid_room_of}
-use Rattle.checks.proofs.GridCheckLaws.{grid_gives, grid_checks_are}
+use Rattle.bspline.specs.Refusals.{pass}
+use Rattle.checks.specs.GridChecks.{grid_lent, grid_checks}
 use Rattle.surfaces.proofs.CallLaws.{call-refused, call_passed}
-use borrow.Author.Rules.{rules}
 use Rattle.surfaces.proofs.fit_grid.Goals as goal
 
-pub fit_passed-r-requires : goal.fit_passed-r-requires
-fit_passed-r-requires c =
+pub returns-in_err-check_grid : goal.returns-in_err-check_grid
+unfolding grid_checks
+returns-in_err-check_grid c =
     let a = c.args in
     let l = grid_lent a.poles.now a.uflat.now a.uknots.now a.umults.now a.vflat.now a.vknots.now a.vmults.now a.work.now a.index.now in
-    let r = grid_checks_are a.points.now a.shape a.metric l _ c.check_grid.ensures in
-    grid_gives (grid_of a.points.now a.shape a.metric) (grid_room_of l) (sym r ∙ c.in-Pass.is)
+    let e : c.check_grid.result ≡ Err c.in_err-check_grid.field-0.0 = search rules in
+    let f : c.from_residual.result ≡ Err c.in_err-check_grid.field-0.0 = search rules in
+    rw f (call-refused a.call a.points.now a.shape a.metric _ l (sym e ∙ c.check_grid.ensures.verdict))
 
-pub returns-in-Stop : goal.returns-in-Stop
-returns-in-Stop c =
+pub returns : goal.returns
+unfolding grid_checks
+returns c =
     let a = c.args in
-    let l = grid_lent a.poles.now a.uflat.now a.uknots.now a.umults.now a.vflat.now a.vknots.now a.vmults.now a.work.now a.index.now in
-    let r = grid_checks_are a.points.now a.shape a.metric l _ c.check_grid.ensures in
-    call-refused a.call a.points.now a.shape a.metric _ l (sym c.in-Stop.is ∙ r)
-
-pub returns-in-Pass : goal.returns-in-Pass
-returns-in-Pass c =
-    let a = c.args in
-    let l = grid_lent a.poles.now a.uflat.now a.uknots.now a.umults.now a.vflat.now a.vknots.now a.vmults.now a.work.now a.index.now in
-    let r = grid_checks_are a.points.now a.shape a.metric l _ c.check_grid.ensures in
-    let p = c.fit_passed-r in
-    let long : length p.new.work ≡ length a.work.now = search rules in
-    let wide : length p.new.index ≡ length a.index.now = search rules in
-    call_passed a.call a.points.now a.shape a.metric (sym c.in-Pass.is ∙ r) p.ensures _ _
-    (c.clear.ensures ∙ ap (λ (n : ℕ). replicate n nought) long) (c.clear_index.ensures ∙ ap (λ (n : ℕ). replicate n 0) wide)
+    let e : c.check_grid.result ≡ pass = search rules in
+    let w : c.fill.new.self ≡ replicate (length a.work.now) nought = search rules in
+    let i : c.fill-2.new.self ≡ replicate (length a.index.now) 0 = search rules in
+    call_passed a.call a.points.now a.shape a.metric (sym e ∙ c.check_grid.ensures.verdict) c.fit_passed-answer.ensures _ _ w i

@@ -1,13 +1,13 @@
 -- The rows' poles and table stand before the columns' regions: so the columns are fitted over the rows' fit, and both stand in the work at the end. Assumes nothing.
-use mathlib.Core.Path.{◌≡◌, sym, ◌∙◌, ap, subst}
+use mathlib.Core.Path.{◌≡◌, sym, ap, subst}
 use Prim.Native.Nat.{◌+◌}
 use native.Mathlib.Omega.{arith}
 use lib.ListN.{length}
 use Rattle.tables.specs.Layout.{FillsTable}
 use Rattle.fitting.specs.declared.Job.{Job}
 use Rattle.grids.proofs.GridRunLaws.{grid-refused}
-use Rattle.grids.proofs.GridCallLaws.{n-few, filling, same-work, columns_ready, both_ready, columns_fail, columns_hand}
-use borrow.Author.Rules.{rules}
+use Rattle.grids.proofs.GridCallLaws.{n-few, filling, columns_ready, both_ready, columns_fail, columns_hand}
+use Rattle.std.proofs.Common.{rules, Ok, Err}
 use Rattle.grids.proofs.fits.fit_columns.Goals as goal
 
 pub overflow_add-flat : goal.overflow_add-flat
@@ -50,7 +50,7 @@ make_direction-requires c =
     let e = rw c.requires.1 at f.ensures.index_after in
     let g = rw c.requires.1 at f.ensures.work_after in
     let long : length f.new.index ≡ length a.index.now = search rules in
-    rw (c.columns_job-columns.ensures, c.column_aim.ensures) (columns_ready a.rows.factor a.call a.points.now a.work.now a.index.now a.shape c.requires.0 a.x c.requires.2 f.new.work f.new.index e g long)
+    rw (c.columns_job-columns.ensures, c.column_aim-aim.ensures) (columns_ready a.rows.factor a.call a.points.now a.work.now a.index.now a.shape c.requires.0 a.x c.requires.2 f.new.work f.new.index e g long)
 
 pub hand_both-requires : goal.hand_both-requires
 hand_both-requires c =
@@ -59,56 +59,30 @@ hand_both-requires c =
     let e = rw c.requires.1 at f.ensures.index_after in
     let g = rw c.requires.1 at f.ensures.work_after in
     let long : length f.new.index ≡ length a.index.now = search rules in
-    let m = rw (c.columns_job-columns.ensures, c.column_aim.ensures) at c.make_direction.ensures in
-    rw (c.requires.1, c.columns_job-columns.ensures) (both_ready a.rows.factor a.call a.points.now a.work.now a.index.now a.shape c.requires.0 a.x c.requires.2 f.new.work f.new.index e g long m c.in-Stands.y c.in-Stands.is)
+    let m = rw (c.columns_job-columns.ensures, c.column_aim-aim.ensures) at c.make_direction.ensures in
+    let y : c.make_direction.result ≡ Ok c.in_ok-y.y = search rules in
+    rw (c.requires.1, c.columns_job-columns.ensures) (both_ready a.rows.factor a.call a.points.now a.work.now a.index.now a.shape c.requires.0 a.x c.requires.2 f.new.work f.new.index e g long m c.in_ok-y.y y)
 
-pub shape_of-work-in-Fails : goal.shape_of-work-in-Fails
-shape_of-work-in-Fails c =
+pub returns-in_err-y : goal.returns-in_err-y
+returns-in_err-y c =
     let a = c.args in
     let f = c.fill_table in
     let e = rw c.requires.1 at f.ensures.index_after in
     let g = rw c.requires.1 at f.ensures.work_after in
     let long : length f.new.index ≡ length a.index.now = search rules in
-    let m = rw (c.columns_job-columns.ensures, c.column_aim.ensures) at c.make_direction.ensures in
-    m.kept.long ∙ same-work a.rows.factor a.call a.points.now a.work.now a.index.now a.shape c.requires.0 a.x c.requires.2 f.new.work f.new.index e g long
+    let m = rw (c.columns_job-columns.ensures, c.column_aim-aim.ensures) at c.make_direction.ensures in
+    let y : c.make_direction.result ≡ Err c.in_err-y.field-0.0 = search rules in
+    let r : c.from_residual.result ≡ Err c.in_err-y.field-0.0 = search rules in
+    rw r (grid-refused a.shape _ c.in_err-y.field-0.0 (columns_fail a.rows.factor a.call a.points.now a.work.now a.index.now a.shape c.requires.0 a.x c.requires.2 f.new.work f.new.index e g long m c.in_err-y.field-0.0 y) _ _ _ _)
 
-pub returns-in-Fails : goal.returns-in-Fails
-returns-in-Fails c =
+pub returns : goal.returns
+returns c =
     let a = c.args in
     let f = c.fill_table in
     let e = rw c.requires.1 at f.ensures.index_after in
     let g = rw c.requires.1 at f.ensures.work_after in
     let long : length f.new.index ≡ length a.index.now = search rules in
-    let m = rw (c.columns_job-columns.ensures, c.column_aim.ensures) at c.make_direction.ensures in
-    grid-refused a.shape _ c.in-Fails.c (columns_fail a.rows.factor a.call a.points.now a.work.now a.index.now a.shape c.requires.0 a.x c.requires.2 f.new.work f.new.index e g long m c.in-Fails.c c.in-Fails.is) _ _ _ _
-
-pub shape_of-work-in-Stands : goal.shape_of-work-in-Stands
-shape_of-work-in-Stands c =
-    let a = c.args in
-    let f = c.fill_table in
-    let e = rw c.requires.1 at f.ensures.index_after in
-    let g = rw c.requires.1 at f.ensures.work_after in
-    let long : length f.new.index ≡ length a.index.now = search rules in
-    let m = rw (c.columns_job-columns.ensures, c.column_aim.ensures) at c.make_direction.ensures in
-    m.kept.long ∙ same-work a.rows.factor a.call a.points.now a.work.now a.index.now a.shape c.requires.0 a.x c.requires.2 f.new.work f.new.index e g long
-
-pub shape_of-index-in-Stands : goal.shape_of-index-in-Stands
-shape_of-index-in-Stands c =
-    let a = c.args in
-    let f = c.fill_table in
-    let e = rw c.requires.1 at f.ensures.index_after in
-    let g = rw c.requires.1 at f.ensures.work_after in
-    let long : length f.new.index ≡ length a.index.now = search rules in
-    let m = rw (c.columns_job-columns.ensures, c.column_aim.ensures) at c.make_direction.ensures in
-    m.firsts.long ∙ long
-
-pub returns-in-Stands : goal.returns-in-Stands
-returns-in-Stands c =
-    let a = c.args in
-    let f = c.fill_table in
-    let e = rw c.requires.1 at f.ensures.index_after in
-    let g = rw c.requires.1 at f.ensures.work_after in
-    let long : length f.new.index ≡ length a.index.now = search rules in
-    let m = rw (c.columns_job-columns.ensures, c.column_aim.ensures) at c.make_direction.ensures in
+    let m = rw (c.columns_job-columns.ensures, c.column_aim-aim.ensures) at c.make_direction.ensures in
+    let y : c.make_direction.result ≡ Ok c.in_ok-y.y = search rules in
     let o = rw (c.requires.1, c.columns_job-columns.ensures) at c.hand_both.ensures in
-    columns_hand a.rows.factor a.call a.points.now a.work.now a.index.now a.shape c.requires.0 a.x c.requires.2 f.new.work f.new.index e g long m c.in-Stands.y c.in-Stands.is o
+    columns_hand a.rows.factor a.call a.points.now a.work.now a.index.now a.shape c.requires.0 a.x c.requires.2 f.new.work f.new.index e g long m c.in_ok-y.y y o

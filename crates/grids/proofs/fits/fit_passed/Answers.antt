@@ -9,7 +9,8 @@ use Rattle.bspline.specs.declared.Refusal.TheVariants.{ConfusedPoints}
 use Rattle.knots.proofs.LineLaws.{rows_inside, columns_in, found_none, found_some}
 use Rattle.grids.proofs.GridRunLaws.{grid-same, grid-refused}
 use Rattle.grids.proofs.GridCallLaws.{passed-given, there-long, u_there, v_there, u-none, v-none, counts_stop, counts_pass}
-use borrow.Author.Rules.{rules}
+use Rattle.std.proofs.Common.{rules, Err}
+use Rattle.bspline.specs.Refusals.{pass}
 use Rattle.grids.proofs.fits.fit_passed.Goals as goal
 
 pub shared_parameters-requires : goal.shared_parameters-requires
@@ -44,27 +45,20 @@ fit_rows-requires c =
     let same : length w ≡ length a.work.now = search rules in
     let long : length ys ≡ length w - a.shape.rows = search rules in
     let fits : a.shape.rows + a.shape.cols ≤ length w = omega (arith, c.requires.1.for_work, same) in
-    passed-given a.call a.points.now a.shape a.work.now a.index.now c.requires.0 c.requires.1 (sym c.check_counts.ensures ∙ c.in-Pass.is) (splice a.shape.rows (length w) ys w) a.index.now (there-long a.shape w ys long fits ∙ same) refl
+    let k : c.check_counts.result ≡ pass = search rules in
+    passed-given a.call a.points.now a.shape a.work.now a.index.now c.requires.0 c.requires.1 (sym c.check_counts.ensures ∙ k) (splice a.shape.rows (length w) ys w) a.index.now (there-long a.shape w ys long fits ∙ same) refl
 
-pub returns-in-Stop : goal.returns-in-Stop
-returns-in-Stop c =
+pub returns-in_err-check_counts : goal.returns-in_err-check_counts
+returns-in_err-check_counts c =
     let a = c.args in
     let q = c.shared_parameters in
     let z = c.shared_parameters-2 in
-    grid-refused a.shape _ c.in-Stop.c (counts_stop a.call a.points.now a.shape a.metric _ (found_some q.ensures (ap not c.if-not-shared_parameters.false)) _ (found_some z.ensures (ap not c.if-not-shared_parameters-2.false)) c.in-Stop.c (sym c.check_counts.ensures ∙ c.in-Stop.is)) _ _ _ _
+    let k : c.check_counts.result ≡ Err c.in_err-check_counts.field-0.0 = search rules in
+    let r : c.from_residual.result ≡ Err c.in_err-check_counts.field-0.0 = search rules in
+    rw r (grid-refused a.shape _ c.in_err-check_counts.field-0.0 (counts_stop a.call a.points.now a.shape a.metric _ (found_some q.ensures (ap not c.if-not-shared_parameters.false)) _ (found_some z.ensures (ap not c.if-not-shared_parameters-2.false)) c.in_err-check_counts.field-0.0 (sym c.check_counts.ensures ∙ k)) _ _ _ _)
 
-pub shape_of-work-in-Pass : goal.shape_of-work-in-Pass
-shape_of-work-in-Pass c =
-    let a = c.args in
-    let w = c.shared_parameters.new.out in
-    let ys = c.shared_parameters-2.new.out in
-    let same : length w ≡ length a.work.now = search rules in
-    let long : length ys ≡ length w - a.shape.rows = search rules in
-    let fits : a.shape.rows + a.shape.cols ≤ length w = omega (arith, c.requires.1.for_work, same) in
-    (let rows : length c.fit_rows.new.work ≡ length (splice a.shape.rows (length w) ys w) = search rules in rows) ∙ there-long a.shape w ys long fits ∙ same
-
-pub returns-in-Pass : goal.returns-in-Pass
-returns-in-Pass c =
+pub returns : goal.returns
+returns c =
     let a = c.args in
     let w = c.shared_parameters.new.out in
     let ys = c.shared_parameters-2.new.out in
@@ -73,7 +67,8 @@ returns-in-Pass c =
     let fits : a.shape.rows + a.shape.cols ≤ length w = omega (arith, c.requires.1.for_work, same) in
     let q = c.shared_parameters in
     let z = c.shared_parameters-2 in
+    let k : c.check_counts.result ≡ pass = search rules in
     grid-same a.shape _
     (counts_pass a.call a.points.now a.shape a.metric _ (found_some q.ensures (ap not c.if-not-shared_parameters.false)) _ (found_some z.ensures (ap not c.if-not-shared_parameters-2.false)) (splice a.shape.rows (length w) ys w)
-    (sym c.check_counts.ensures ∙ c.in-Pass.is) (u_there a.shape w ys long fits) (v_there a.shape w ys long fits))
+    (sym c.check_counts.ensures ∙ k) (u_there a.shape w ys long fits) (v_there a.shape w ys long fits))
     c.fit_rows.ensures

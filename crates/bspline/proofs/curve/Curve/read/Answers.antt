@@ -2,7 +2,7 @@
 use Rattle.std.proofs.Common.{rules, ◌≡◌, ◌∙◌, ap, ◌+◌, ◌/◌, List, length, take, Ok, Err}
 use lib.Ieee.{Float}
 use lib.Seq.{take_at}
-use Rattle.bspline.specs.Refusals.{passes}
+use Rattle.bspline.specs.Refusals.{pass}
 use Rattle.bspline.specs.Reader.{flat_knots, curve_point, reader_verdict, Sized, Counted}
 use Rattle.bspline.proofs.CheckLaws.{flat-count, reads}
 use Rattle.bspline.proofs.curve.Curve.read.Goals as goal
@@ -17,7 +17,7 @@ returns-in_err-check_sizes c =
 pub returns-in_err-check_knots : goal.returns-in_err-check_knots
 unfolding reader_verdict
 returns-in_err-check_knots c =
-    let s : c.check_sizes.result ≡ passes = search rules in
+    let s : c.check_sizes.result ≡ pass = search rules in
     let e : c.check_knots.result ≡ Err c.in_err-check_knots.field-0.0 = search rules in
     let f : c.from_residual-in_err-check_knots.result ≡ Err c.in_err-check_knots.field-0.0 = search rules in
     reads _ _ _ _ _ _ (f ∙ rw (← c.check_sizes.ensures.verdict, s, ← c.check_knots.ensures.verdict, e))
@@ -25,8 +25,8 @@ returns-in_err-check_knots c =
 pub returns-in_err-check_readable : goal.returns-in_err-check_readable
 unfolding reader_verdict
 returns-in_err-check_readable c =
-    let s : c.check_sizes.result ≡ passes = search rules in
-    let k : c.check_knots.result ≡ passes = search rules in
+    let s : c.check_sizes.result ≡ pass = search rules in
+    let k : c.check_knots.result ≡ pass = search rules in
     let e : c.check_readable.result ≡ Err c.in_err-check_readable.field-0.0 = search rules in
     let f : c.from_residual-in_err-check_readable.result ≡ Err c.in_err-check_readable.field-0.0 = search rules in
     reads _ _ _ _ _ _ (f ∙ rw (← c.check_sizes.ensures.verdict, s, ← c.check_knots.ensures.verdict, k, ← c.check_readable.ensures.verdict, e))
@@ -34,9 +34,9 @@ returns-in_err-check_readable c =
 pub returns : goal.returns
 unfolding reader_verdict
 returns c =
-    let s : c.check_sizes.result ≡ passes = search rules in
-    let k : c.check_knots.result ≡ passes = search rules in
-    let r : c.check_readable.result ≡ passes = search rules in
+    let s : c.check_sizes.result ≡ pass = search rules in
+    let k : c.check_knots.result ≡ pass = search rules in
+    let r : c.check_readable.result ≡ pass = search rules in
     let a = c.args.self in
     let sized : Sized (length a.poles.now) a.degree (length a.knots.now) (length a.mults.now) = search rules in
     let counted : Counted (length a.poles.now / 3) a.degree a.knots.now a.mults.now = search rules in
