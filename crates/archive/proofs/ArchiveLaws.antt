@@ -40,7 +40,7 @@ use Rattle.archive.specs.Archive.{archived_poles, archived_knots, archived_mults
 use Rattle.archive.proofs.EndLaws.{Curve, call-curve}
 use Rattle.archive.proofs.ReadLaws.{reads-taken, read-there, first-told, ends-told, told-taken, told-read}
 use Rattle.std.specs.Prelude.{Ok, Err}
-use Rattle.bspline.specs.Refusals.{Verdict, pass}
+use Rattle.bspline.specs.Refusals.{◌next◌, Verdict, pass}
 
 -- ---- what stands in the slices
 
@@ -175,7 +175,7 @@ module _ (call : Call) (s : List Float) (degree : ℕ) (v : Metric) (l l' : Lent
 
   -- who hands a call's result out has handed out a curve that reads back. The slices that the call was judged by are m: those that were lent, or none.
   pub hands-back : (m : Lent) → (ladder_checks call s degree v m ≡ pass → ladder_checks call s degree v l ≡ pass) → HandsOut degree (result_of call s degree v m) l l' (Ok f) → ReadsBack v s degree l' f
-  unfolding result_of ladder_fit checked fit_with answer_of handed
+  unfolding result_of ladder_fit fit_with answer_of handed
   hands-back m lends h = by_checks (ladder_checks call s degree v m) refl (point_parameters v (point_count s) (point_at s)) refl h
     where
       refusal : (x : Refusal) → Ok f ≡ Err x → ReadsBack v s degree l' f
@@ -187,7 +187,7 @@ module _ (call : Call) (s : List Float) (degree : ℕ) (v : Metric) (l l' : Lent
       by-fit params p e (Ok a) q h = let i : f ≡ fit_of degree a = cc h.answer in accepted-back params p (lends e) a q i h.poles h.flat h.knots h.mults
 
       by_checks : (w : Verdict) → ladder_checks call s degree v m ≡ w → (o : Option (List Float)) → point_parameters v (point_count s) (point_at s) ≡ o
-          → HandsOut degree (checked w (fit_with v.factor s degree (fit_by call) o)) l l' (Ok f) → ReadsBack v s degree l' f
+          → HandsOut degree (w next (fit_with v.factor s degree (fit_by call) o)) l l' (Ok f) → ReadsBack v s degree l' f
       by_checks (Err x) e o p h = refusal x h.answer
       by_checks (Ok p₀) e none p h = refusal _ h.answer
       by_checks (Ok p₀) e (some params) p h = by-fit params p e (fit_by call (along params)) refl h

@@ -7,8 +7,8 @@ use lib.ListN.{length}
 use lib.Ieee.{Float, le, lt, eq, is_nan, of_bits, binary64}
 use Rattle.places.specs.Places.{list_of, joined, some_below, count_below}
 use Rattle.geometry.specs.Doubles.{is_finite}
-use Rattle.bspline.specs.Refusals.{stop_if, ◌next◌, pass}
-use Rattle.bspline.specs.Reader.{flat_knots, sum_of, not_increasing, inner_too_large, too_large, sizes_verdict, knots_verdict, no_multiplicity, not_finite, not_readable, reader_verdict, reading_of, curve_point, Reading}
+use Rattle.bspline.specs.Refusals.{pass}
+use Rattle.bspline.specs.Reader.{flat_knots, too_large, sizes_verdict, knots_verdict, not_readable, reader_verdict, curve_point, Reading}
 use Rattle.bspline.proofs.CheckLaws.{reads}
 use Rattle.knots.specs.declared.Metric.{Metric}
 use Rattle.knots.specs.Knots.{equal_from, run_length, run_start, distinct_knots, knot_at, multiplicity_at}
@@ -33,14 +33,13 @@ Taken poles u = reader_verdict poles 2 (list_of (distinct_knots averaged) (knot_
 
 -- at 0, 0.25, 0.5 and 1
 pub averaged_taken : (poles : List Float) → length poles ≡ 12 → Taken poles (bits 0) × Taken poles (bits 0x3fd0_0000_0000_0000) × Taken poles (bits 0x3fe0_0000_0000_0000) × Taken poles (bits 0x3ff0_0000_0000_0000)
-unfolding le lt eq is_nan of_bits list_of joined some_below count_below is_finite stop_if ◌next◌ flat_knots sum_of not_increasing inner_too_large too_large sizes_verdict knots_verdict no_multiplicity not_finite not_readable reader_verdict equal_from run_length run_start distinct_knots knot_at multiplicity_at
+unfolding le lt eq is_nan of_bits list_of joined some_below count_below is_finite flat_knots too_large sizes_verdict knots_verdict not_readable reader_verdict equal_from run_length run_start distinct_knots knot_at multiplicity_at
 averaged_taken poles e = (rw e, rw e, rw e, rw e)
 
 -- a call's curve over these knots, read at a point's own parameter: it is taken at 0, so the theorem says what it gives
 pub averaged_read : (call : Call) (s : List Float) (v : Metric) (l l' : Lent) (f : Fit) → LadderCall call s 2 v l l' (Ok f) → length (archived_poles f l') ≡ 12
     → archived_knots f l' ≡ list_of (distinct_knots averaged) (knot_at averaged) → archived_mults f l' ≡ list_of (distinct_knots averaged) (multiplicity_at averaged)
     → (k : ℕ) → k < point_count s → (r : Reading) → ReadsArchived 2 f l' (parameter_of v s 2 k) r → r ≡ Ok (fit_point v s 2 f l' k)
-unfolding reading_of
 averaged_read call s v l l' f h twelve knots mults k g r there =
     let q = curve_point (flat_knots (archived_knots f l') (archived_mults f l')) 2 (archived_poles f l') (bits 0) in
     let passes : reader_verdict (archived_poles f l') 2 (archived_knots f l') (archived_mults f l') (bits 0) ≡ pass = rw (knots, mults) (averaged_taken (archived_poles f l') twelve).0 in

@@ -10,13 +10,13 @@ use lib.Dec.{T, ltb}
 use lib.ListN.{length, get_or}
 use lib.Ieee.{Float, nan, le, is_nan}
 use Rattle.places.specs.Places.{list_of}
-use Rattle.places.proofs.PlaceLaws.{length-list_of, list_of-at, some_false}
+use Rattle.places.proofs.PlaceLaws.{length-list_of, list_of-at}
 use Rattle.geometry.specs.declared.Point.{Point}
 use Rattle.geometry.specs.Doubles.{nought, one, at}
 use Rattle.geometry.specs.Points.{put_point}
 use Rattle.geometry.proofs.ShareLaws.{share-number, share-from_zero, share-to_one}
 use Rattle.bspline.specs.Spans.{NeverFalls, first_parameter, last_parameter, InRange}
-use Rattle.bspline.specs.Reader.{number_in, flat_knots, curve_point, not_increasing, reader_verdict, reading_of, Reads, Reading}
+use Rattle.bspline.specs.Reader.{number_in, flat_knots, curve_point, reader_verdict, reading_of, Reads, Reading}
 use Rattle.bspline.proofs.CheckLaws.{Taken, taken, taken_there, numbers, numbered}
 use Rattle.knots.specs.Knots.{distinct_knots, knot_at, multiplicity_at}
 use Rattle.knots.proofs.KnotLaws.{Ends}
@@ -24,13 +24,13 @@ use Rattle.tables.specs.BasisTable.{basis_table, table_point}
 use Rattle.tables.proofs.TableLaws.{point_read}
 use Rattle.checks.proofs.RisingLaws.{Rising}
 use Rattle.telling.specs.ToldReading.{told_reading, told_point, ToldReads}
+use Rattle.bspline.proofs.CheckLaws.{rises as knots-rise}
 use Rattle.archive.proofs.RunLaws.{same-flat, last-wide, first-mult, first-knot, last-knot}
 use Rattle.std.specs.Prelude.{Ok, Err}
 use Rattle.bspline.specs.Refusals.{Verdict, pass}
 
 -- what reads at some parameter is taken
 pub reads-taken : (poles : List Float) (d : ℕ) (knots : List Float) (mults : List ℕ) (u : Float) (p : Point) → Reads poles d knots mults u (Ok p) → reader_verdict poles d knots mults u ≡ pass
-unfolding reading_of
 reads-taken poles d knots mults u p h = go (reader_verdict poles d knots mults u) h.answer
   where
     go : (w : Verdict) → Ok p ≡ reading_of w (curve_point (flat_knots knots mults) d poles u) → w ≡ pass
@@ -66,10 +66,9 @@ module _ (flat : List Float) (d : ℕ) (ends : 2 * d + 2 ≤ length flat → End
         (numbers (length poles / 3) d knots mults w has.readable j (omega (arith, many)))
 
     rises : (j : ℕ) → j + 1 < D → le (knot_at flat (j + 1)) (knot_at flat j) ≡ false
-    unfolding not_increasing
     rises j l =
         rw (← list_of-at D (knot_at flat) j nan (omega arith), ← list_of-at D (knot_at flat) (j + 1) nan l)
-        (some_false (length knots - 1) (λ i. le (at knots (i + 1)) (at knots i)) has.counted.rising j (omega (arith, many)))
+        (knots-rise knots has.counted.rising j (omega (arith, many)))
 
     at_first : multiplicity_at flat 0 ≤ d + 1
     at_first = rw (list_of-at D (multiplicity_at flat) 0 0 (omega (arith, two))) at has.first
@@ -111,7 +110,6 @@ module _ (flat : List Float) (d : ℕ) (ends : 2 * d + 2 ≤ length flat → End
 
       -- at each of the parameters the answer is the table's point
       pub read-there : (k : ℕ) → k < n → reading_of (reader_verdict poles d knots mults (at params k)) (curve_point (flat_knots knots mults) d poles (at params k)) ≡ Ok (table_point (basis_table flat d params) poles 0 k)
-      unfolding reading_of
       read-there k l =
           let there = taken_there poles d knots mults w passes (at params k) (share-number (at params k) (rising.shares k l)) in
           ap (λ (v : Verdict). reading_of v (curve_point (flat_knots knots mults) d poles (at params k))) there ∙ ap Ok (point-same k l)
@@ -120,7 +118,6 @@ module _ (flat : List Float) (d : ℕ) (ends : 2 * d + 2 ≤ length flat → End
 
 -- a result of 0 is a reading
 pub told-taken : (poles : List Float) (d : ℕ) (knots : List Float) (mults : List ℕ) (u : Float) (out out' : List Float) → ToldReads poles d knots mults u out out' 0 → reader_verdict poles d knots mults u ≡ pass
-unfolding reading_of
 told-taken poles d knots mults u out out' h = go (ltb (length out) 3) (reader_verdict poles d knots mults u) h.value
   where
     go : (b : Bool) (v : Verdict) → 0 ≡ cond b 9 (number_in (reading_of v (curve_point (flat_knots knots mults) d poles u))) → v ≡ pass

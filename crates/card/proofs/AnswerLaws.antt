@@ -33,7 +33,7 @@ use Rattle.card_reader.specs.declared.Tolerance.{Tolerance}
 use Rattle.card_printer.specs.Answer.{answer_text}
 use Rattle.card.specs.Answers.{call_of, buffers, fit_text, result_text, handed_text, FewIn}
 use Rattle.std.specs.Prelude.{Ok, Err}
-use Rattle.bspline.specs.Refusals.{Verdict, pass}
+use Rattle.bspline.specs.Refusals.{◌next◌, Verdict, pass}
 
 -- a fit of n points of degree p: at most n poles, and flat knots to them
 pub record Stands (p n : ℕ) (f : Candidate) : Type 0 where
@@ -96,16 +96,16 @@ fit-right t factor s degree params l r under few low high e (Ok b) q a p k m =
 
 by-tolerance : (t : Tolerance) (s : List Float) (degree : ℕ) (v : Metric) (l : Lent) (r : Answer) → length s ≤ 192 → LadderCall (call_of t) s degree v buffers l r
     → Right r l (result_of (call_of t) s degree v buffers)
-unfolding ladder_fit result_of checked fit_with
+unfolding ladder_fit result_of fit_with
 by-tolerance t s degree v l r few c =
     go (ladder_checks (call_of t) s degree v buffers) refl (point_parameters v (point_count s) (point_at s)) refl c.hands.answer c.hands.poles c.hands.knots c.hands.mults
   where
     go : (w : Verdict) → ladder_checks (call_of t) s degree v buffers ≡ w → (o : Option (List Float)) → point_parameters v (point_count s) (point_at s) ≡ o
-        → r ≡ answer_of degree (checked w (fit_with v.factor s degree (fit_by (call_of t)) o))
-        → l.poles ≡ handed_poles (checked w (fit_with v.factor s degree (fit_by (call_of t)) o)) buffers.poles
-        → l.knots ≡ handed_knots (checked w (fit_with v.factor s degree (fit_by (call_of t)) o)) buffers.knots
-        → l.mults ≡ handed_mults (checked w (fit_with v.factor s degree (fit_by (call_of t)) o)) buffers.mults
-        → Right r l (checked w (fit_with v.factor s degree (fit_by (call_of t)) o))
+        → r ≡ answer_of degree (w next (fit_with v.factor s degree (fit_by (call_of t)) o))
+        → l.poles ≡ handed_poles (w next (fit_with v.factor s degree (fit_by (call_of t)) o)) buffers.poles
+        → l.knots ≡ handed_knots (w next (fit_with v.factor s degree (fit_by (call_of t)) o)) buffers.knots
+        → l.mults ≡ handed_mults (w next (fit_with v.factor s degree (fit_by (call_of t)) o)) buffers.mults
+        → Right r l (w next (fit_with v.factor s degree (fit_by (call_of t)) o))
     go (Err q) e o u a p k m = right-refused degree l r q a
     go (Ok p₀) e none u a p k m = right-refused degree l r ConfusedPoints a
     go (Ok p₀) e (some params) u a p k m =

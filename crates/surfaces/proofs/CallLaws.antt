@@ -11,14 +11,14 @@ use Rattle.checks.specs.LadderChecks.{cleared}
 use Rattle.checks.specs.declared.Shape.{Shape}
 use Rattle.checks.specs.declared.SurfaceCall.{SurfaceCall}
 use Rattle.checks.specs.GridChecks.{grid_of, GridLent, grid_lent, grid_room_of, grid_checks}
-use Rattle.grids.specs.Grids.{GridResult, grid_refused, grid_accepted, grid_checked, grid_fit, grid_result_of, grid_answer_of,, HandsOutGrid, GridCall, GridAnswer}
+use Rattle.grids.specs.Grids.{GridResult, grid_refused, grid_accepted, grid_checked, grid_fit, grid_result_of, grid_answer_of, grid_result_number, HandsOutGrid, GridCall, GridAnswer}
 use Rattle.grids.proofs.GridRunLaws.{grid-refused}
 use Rattle.std.specs.Prelude.{Err}
 use Rattle.bspline.specs.Refusals.{Verdict, pass}
 use Rattle.bspline.specs.Reader.{number_in}
 
 module _ (call : SurfaceCall) (points : List Float) (h : Shape) (v : Metric) where
-  number-grid_answer_of : (fit : GridResult) → number_in (grid_answer_of h fit) ≡ fit
+  number-grid_answer_of : (fit : GridResult) → number_in (grid_answer_of h fit) ≡ grid_result_number fit
   unfolding grid_answer_of
   number-grid_answer_of (grid_refused c) = refl
   number-grid_answer_of (grid_accepted a b) = refl
@@ -29,7 +29,7 @@ module _ (call : SurfaceCall) (points : List Float) (h : Shape) (v : Metric) whe
       let q : grid_result_of call (grid_of points h v) l ≡ grid_refused c = ap (λ (a : Verdict). grid_checked a (grid_fit call (grid_of points h v))) (sym e) in
       record {
         hands = grid-refused h (grid_result_of call (grid_of points h v) l) c q _ _ _ _;
-        number = sym (ap q);
+        number = sym (ap grid_result_number q);
         work = ap (λ (a : Verdict). cleared nought a l.work) e;
         index = ap (λ (a : Verdict). cleared 0 a l.index) e;
       }

@@ -13,10 +13,9 @@ use Rattle.places.proofs.PlaceLaws.{some_false}
 use Rattle.geometry.specs.declared.Point.{Point}
 use Rattle.geometry.specs.Doubles.{nought, one, half, double, is_finite, at}
 use Rattle.geometry.proofs.FloatOrder.{test}
-use Rattle.bspline.specs.Refusals.{stop_if, ◌next◌}
 use Rattle.bspline.specs.Spans.{span_from, span_before, clamp, last_with, span_of, NeverFalls, InRange}
 use Rattle.bspline.specs.Basis.{share, rising, row, basis, left_of, right_of, basis_at}
-use Rattle.bspline.specs.Reader.{number_in, flat_knots, sum_of, curve_point, not_increasing, inner_too_large, too_large, sizes_verdict, knots_verdict, no_multiplicity, not_finite, not_readable, reader_verdict, reading_of, Reads}
+use Rattle.bspline.specs.Reader.{flat_knots, curve_point, too_large, sizes_verdict, knots_verdict, not_readable, reader_verdict, Reads}
 use Rattle.tables.specs.BasisTable.{basis_table, value}
 use Rattle.unity.specs.Unity.{exact_sum, NearlyOne, InUnitInterval}
 use Rattle.unity.proofs.UnityLaws.{nearly_one}
@@ -122,7 +121,7 @@ abbrev point : Point
 point = curve_point (flat_knots knots mults) 2 poles fifth
 
 is_read : Reads poles 2 knots mults fifth (Ok point)
-unfolding reader_verdict sizes_verdict knots_verdict not_readable too_large is_finite number_in flat_knots joined some_below of_bits le is_nan
+unfolding reader_verdict sizes_verdict knots_verdict not_readable too_large is_finite flat_knots joined some_below of_bits le is_nan
 is_read = record { answer = refl; number = refl }
 
 knots_unit : InUnitInterval knots

@@ -23,7 +23,7 @@ use Rattle.tables.proofs.TableLaws.{row_values}
 use Rattle.unity.specs.Unity.{NearlyOne, InUnitInterval, WideSpan, ReadingNearlyOne, TableNearlyOne}
 use Rattle.unity.proofs.UnityLaws.{nearly_one}
 use Rattle.std.specs.Prelude.{Ok, Err}
-use Rattle.bspline.specs.Refusals.{Verdict, pass}
+use Rattle.bspline.specs.Refusals.{Verdict}
 
 -- ---- the reader
 
@@ -51,7 +51,7 @@ module _ (poles : List Float) (d : ℕ) (knots : List Float) (mults : List ℕ) 
 
   by_verdict : (w : Verdict) → reader_verdict poles d knots mults u ≡ w → Ok q ≡ reading_of w (curve_point flat d poles u) → T (fits binary64 u) → InUnitInterval knots → WideSpan flat s
       → (q ≡ weighted (d + 1) (at (basis_at flat d s x)) (λ a. point_at poles (s - d + a))) × NearlyOne (basis_at flat d s x)
-  unfolding reading_of curve_point
+  unfolding curve_point
   by_verdict (Err c) e f F Z W = let z : ◌≡◌ {A = ℕ} 0 1 = cc in absurd (omega arith)
   by_verdict (Ok p₀) e f F Z W =
       let t = taken poles d knots mults u e in
