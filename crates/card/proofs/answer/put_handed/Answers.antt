@@ -7,24 +7,24 @@ use Rattle.card.specs.Answers.{FewIn, handed_text}
 use Rattle.card.proofs.answer.put_handed.Goals as goal
 
 pub overflow_mul-m : goal.overflow_mul-m
-overflow_mul-m c = let few = subst FewIn c.in-Fitted.is c.requires.0 in omega arith
+overflow_mul-m c = let few = subst FewIn c.in-Ok.is c.requires.0 in omega arith
 
 pub slice_bounds-put_answer-end : goal.slice_bounds-put_answer-end
-slice_bounds-put_answer-end c = let few = subst FewIn c.in-Fitted.is c.requires.0 in sym (length-take-le _ _ (omega arith))
+slice_bounds-put_answer-end c = let few = subst FewIn c.in-Ok.is c.requires.0 in sym (length-take-le _ _ (omega arith))
 
-pub slice_bounds-put_answer-end-in-Fitted : goal.slice_bounds-put_answer-end-in-Fitted
-slice_bounds-put_answer-end-in-Fitted c = let few = subst FewIn c.in-Fitted.is c.requires.0 in sym (length-take-le _ _ (omega arith))
+pub slice_bounds-put_answer-end-in-Ok : goal.slice_bounds-put_answer-end-in-Ok
+slice_bounds-put_answer-end-in-Ok c = let few = subst FewIn c.in-Ok.is c.requires.0 in sym (length-take-le _ _ (omega arith))
 
-pub slice_bounds-put_answer-end-in-Fitted-2 : goal.slice_bounds-put_answer-end-in-Fitted-2
-slice_bounds-put_answer-end-in-Fitted-2 c = let few = subst FewIn c.in-Fitted.is c.requires.0 in sym (length-take-le _ _ (omega arith))
+pub slice_bounds-put_answer-end-in-Ok-2 : goal.slice_bounds-put_answer-end-in-Ok-2
+slice_bounds-put_answer-end-in-Ok-2 c = let few = subst FewIn c.in-Ok.is c.requires.0 in sym (length-take-le _ _ (omega arith))
 
 pub put_answer-requires : goal.put_answer-requires
-put_answer-requires c = let few = subst FewIn c.in-Fitted.is c.requires.0 in simp length-take (omega arith, omega arith, omega arith, omega arith)
+put_answer-requires c = let few = subst FewIn c.in-Ok.is c.requires.0 in simp length-take (omega arith, omega arith, omega arith, omega arith)
 
-pub returns-in-Refused : goal.returns-in-Refused
+pub returns-in-Err : goal.returns-in-Err
 unfolding handed_text
-returns-in-Refused c = rw (c.in-Refused.is, ← c.number.ensures) c.put_refusal.ensures
+returns-in-Err c = rw (c.in-Err.is, ← c.number.ensures) c.put_refusal.ensures
 
-pub returns-in-Fitted : goal.returns-in-Fitted
+pub returns-in-Ok : goal.returns-in-Ok
 unfolding handed_text
-returns-in-Fitted c = rw c.in-Fitted.is c.put_answer.ensures
+returns-in-Ok c = rw c.in-Ok.is c.put_answer.ensures
