@@ -21,6 +21,12 @@ pub record Columns (w h i a b m p : ℕ) : Type 0 where
   pub point : 3 * i + 3 ≤ p
   pub points : 3 * b ≤ p
 
+-- a system of n rows of w places, and its n points
+pub record HasSystem (w h n : ℕ) (factors poles : List Float) : Type 0 where
+  pub width : h ≤ 25
+  pub rows : n * w ≤ length factors
+  pub places : 3 * n ≤ length poles
+
 -- the factors at l0..l1 and the points at p0..p1 of a work slice
 pub record Regions (l0 l1 p0 p1 : ℕ) (work : List Float) : Type 0 where
   pub factors : l0 ≤ l1
@@ -28,7 +34,7 @@ pub record Regions (l0 l1 p0 p1 : ℕ) (work : List Float) : Type 0 where
   pub points : p0 ≤ p1
   pub fits : p1 ≤ length work
 
--- n rows of w places and n points in these regions
+-- a system in these regions: n rows of w places and n points
 pub record Solvable (l0 l1 p0 p1 w h n : ℕ) (work : List Float) : Type 0 where
   pub regions : Regions l0 l1 p0 p1 work
   pub width : h ≤ 25

@@ -1,5 +1,6 @@
 -- Laws that belong to no one function. `CholeskyLaws` are the textbook's equations; other crates cite them as Rattle.cholesky.proofs.NAME.
 pub mod Lengths
+pub mod Loops
 pub mod CholeskyLaws
 pub mod CarriedLaws
 pub mod Examples

@@ -1,22 +1,19 @@
--- Lines of n points each, one after the other from place a of a work slice on, and what is made of each by itself. Definitions only.
-use Rattle.std.specs.Prelude.{◌≡◌, List, ℕ, ◌+◌, ◌-◌, ◌*◌, ◌≤◌, ◌<◌, length, take, drop, Float}
+-- Lines of n points each, one after the other, and what is made of each by itself. Definitions only.
+use Rattle.std.specs.Prelude.{◌≡◌, List, ℕ, ◌+◌, ◌*◌, ◌≤◌, ◌<◌, length, drop, Float}
 use Rattle.places.specs.Regions.{part}
 
 -- line r
-abbrev pub line_at : ℕ → ℕ → ℕ → List Float → List Float
-line_at a n r w = part (a + 3 * (r * n)) (a + 3 * (r * n) + 3 * n) w
+abbrev pub line_at : ℕ → ℕ → List Float → List Float
+line_at n r poles = part (3 * (r * n)) (3 * (r * n) + 3 * n) poles
 
--- each line r was x and is f r x, and every other place stays
-pub record EachLine (a n lines : ℕ) (f : ℕ → List Float → List Float) (w w' : List Float) : Type 0 where
-  pub long : length w' ≡ length w
-  pub front : take a w' ≡ take a w
-  pub back : drop (a + 3 * (lines * n)) w' ≡ drop (a + 3 * (lines * n)) w
-  pub line : (r : ℕ) → r < lines → line_at a n r w' ≡ f r (line_at a n r w)
+-- each line r was x and is f r x, and every place behind the lines stays
+pub record EachLine (n lines : ℕ) (f : ℕ → List Float → List Float) (poles poles' : List Float) : Type 0 where
+  pub long : length poles' ≡ length poles
+  pub back : drop (3 * (lines * n)) poles' ≡ drop (3 * (lines * n)) poles
+  pub line : (r : ℕ) → r < lines → line_at n r poles' ≡ f r (line_at n r poles)
 
--- n rows of a factor of half-width h at l0..l1, and behind it the lines from p0 on
-pub record SolvableLines (l0 l1 p0 lines h n : ℕ) (work : List Float) : Type 0 where
-  pub factors : l0 ≤ l1
-  pub apart : l1 ≤ p0
-  pub fits : p0 + 3 * (lines * n) ≤ length work
+-- n rows of a factor of half-width h, and the lines
+pub record SolvableLines (lines h n : ℕ) (lower poles : List Float) : Type 0 where
   pub width : h ≤ 25
-  pub rows : n * (h + 1) ≤ l1 - l0
+  pub rows : n * (h + 1) ≤ length lower
+  pub fits : 3 * (lines * n) ≤ length poles

@@ -82,6 +82,7 @@ fn first_triangle(lower: &[f64]) -> Triangle
 }
 
 // The rows of L from row 3 on; false where a pivot is undetermined.
+#[tactic(auto, using(crate::proofs::Loops::stops), unfolding(crate::specs::Cholesky::factor_row, crate::specs::Cholesky::factor_diagonal))]
 fn factor_rest(lower: &mut [f64], n: usize, floor: f64) -> bool
     requires { (3 ≤ n) × (n * 4 ≤ length lower.old) }
     ensures { outcome result lower.new ≡ each_while 3 n (factor_row 3 floor) lower.old }
@@ -105,8 +106,5 @@ pub fn factor_carried(lower: &mut [f64], n: usize, floor: f64) -> bool
     if n < 3 {
         return super::factor_rows(lower, 3, n, floor);
     }
-    if !super::factor_rows(lower, 3, 3, floor) {
-        return false;
-    }
-    factor_rest(lower, n, floor)
+    super::factor_rows(lower, 3, 3, floor) && factor_rest(lower, n, floor)
 }

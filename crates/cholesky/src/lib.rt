@@ -6,85 +6,88 @@ pub mod together;
 
 ghost use Rattle.std.specs.Prelude.{◌≡◌, ◌+◌, ◌*◌, ◌≤◌, ◌<◌, length};
 ghost use Rattle.places.specs.Loops.{each, down, outcome, each_while};
-ghost use Rattle.places.specs.Regions.{part, splice};
 ghost use Rattle.cholesky.specs.Cholesky.{reduced_entry, factor_entry, factor_left, undetermined, factor_row, largest_diagonal, factor_symmetric_band, forward_row, back_point, back_row, substitute_symmetric_band};
-ghost use Rattle.bands.specs.Shapes.{HasRow, Solvable};
+ghost use Rattle.bands.specs.Shapes.{HasRow, HasSystem};
 
+use bands::Band;
 use geometry::Point;
 
 // A[i][j] less the products of rows i and j over the columns before j.
+#[tactic(auto, using(bands::proofs::Rows::loops), unfolding(crate::specs::Cholesky::reduced_entry))]
 fn reduced_entry(lower: &[f64], h: usize, i: usize, j: usize) -> f64
     requires { (i ≤ j + h) × (j ≤ i) × HasRow (h + 1) lower.now i }
     ensures { result ≡ reduced_entry h lower.now i j }
 {
-    let w = h + 1;
-    let mut sum = bands::band_entry(lower, w, h, i, j);
-    let start = bands::row_start(h, i);
-    for k in start..j {
-        sum = sum - bands::band_entry(lower, w, h, i, k) * bands::band_entry(lower, w, h, j, k);
+    let band = Band::lower(lower, h);
+    let mut sum = band.entry(i, j);
+    for k in i.saturating_sub(h)..j {
+        sum -= band.entry(i, k) * band.entry(j, k);
     }
     sum
 }
 
 // L[i][j] left of the diagonal, in place.
+#[tactic(auto, unfolding(crate::specs::Cholesky::factor_entry))]
 fn factor_entry(lower: &mut [f64], h: usize, i: usize, j: usize)
     requires { (i ≤ j + h) × (j < i) × HasRow (h + 1) lower.old i }
     ensures { lower.new ≡ factor_entry h i j lower.old }
 {
-    let w = h + 1;
     let sum = reduced_entry(lower, h, i, j);
-    let pivot = bands::band_entry(lower, w, h, j, j);
-    bands::put_band_entry(lower, w, h, i, j, sum / pivot);
+    let pivot = Band::lower(lower, h).entry(j, j);
+    bands::put_band_entry(lower, h + 1, h, i, j, sum / pivot);
 }
 
 // Row i of L up to its diagonal, in place.
+#[tactic(auto, using(bands::proofs::Rows::loops), unfolding(crate::specs::Cholesky::factor_left))]
 fn factor_left(lower: &mut [f64], h: usize, i: usize)
     requires { HasRow (h + 1) lower.old i }
     ensures { lower.new ≡ factor_left h i lower.old }
 {
-    let start = bands::row_start(h, i);
-    for j in start..i {
+    for j in i.saturating_sub(h)..i {
         factor_entry(lower, h, i, j);
     }
 }
 
 // Whether a pivot is NaN or at most the floor.
+#[tactic(auto, unfolding(crate::specs::Cholesky::undetermined))]
 pub fn is_undetermined(floor: f64, sum: f64) -> bool
     ensures { result ≡ undetermined floor sum }
 {
-    if sum != sum { true } else { sum <= floor }
+    sum.is_nan() || sum <= floor
 }
 
 // Row i of L, in place; false where its pivot is undetermined.
+#[tactic(auto, unfolding(crate::specs::Cholesky::factor_row, crate::specs::Cholesky::factor_diagonal))]
 fn factor_row(lower: &mut [f64], h: usize, i: usize, floor: f64) -> bool
     requires { HasRow (h + 1) lower.old i }
     ensures { outcome result lower.new ≡ factor_row h floor i lower.old }
 {
-    let w = h + 1;
     factor_left(lower, h, i);
     let sum = reduced_entry(lower, h, i, i);
     if is_undetermined(floor, sum) {
         return false;
     }
     let root = geometry::root::sqrt(sum);
-    bands::put_band_entry(lower, w, h, i, i, root);
+    bands::put_band_entry(lower, h + 1, h, i, i, root);
     true
 }
 
 // The largest of 0 and the n diagonal entries, NaN passed over.
+#[tactic(auto, using(crate::proofs::Loops::diagonals), unfolding(crate::specs::Cholesky::largest_diagonal))]
 fn largest_diagonal(lower: &[f64], h: usize, n: usize) -> f64
     requires { (h ≤ 25) × (n * (h + 1) ≤ length lower.now) }
     ensures { result ≡ largest_diagonal h n lower.now }
 {
-    let w = h + 1;
+    let band = Band::lower(lower, h);
     let mut largest = 0.0;
     for i in 0..n {
-        largest = geometry::doubles::max(largest, bands::band_entry(lower, w, h, i, i));
+        largest = geometry::doubles::max(largest, band.entry(i, i));
     }
     largest
 }
 
 // The first n rows of L, in place; false where a pivot is undetermined.
+#[tactic(auto, using(crate::proofs::Loops::stops))]
 pub fn factor_rows(lower: &mut [f64], h: usize, n: usize, floor: f64) -> bool
     requires { (h ≤ 25) × (n * (h + 1) ≤ length lower.old) }
     ensures { outcome result lower.new ≡ each_while 0 n (factor_row h floor) lower.old }
@@ -99,6 +102,7 @@ pub fn factor_rows(lower: &mut [f64], h: usize, n: usize, floor: f64) -> bool
 
 // Cholesky's factor of the n rows of the lower half-band of a symmetric matrix, in place; false where a pivot is NaN or
 // falls to `relative` times the largest diagonal or below.
+#[tactic(auto, unfolding(crate::specs::Cholesky::factor_symmetric_band))]
 pub fn factor_symmetric_band(lower: &mut [f64], h: usize, n: usize, relative: f64) -> bool
     requires { (h ≤ 25) × (n * (h + 1) ≤ length lower.old) }
     ensures { outcome result lower.new ≡ factor_symmetric_band h n relative lower.old }
@@ -110,79 +114,67 @@ pub fn factor_symmetric_band(lower: &mut [f64], h: usize, n: usize, relative: f6
     factor_rows(lower, h, n, floor)
 }
 
-// L y = b in place.
-fn forward_rows(work: &mut [f64], l0: usize, l1: usize, p0: usize, p1: usize, h: usize, n: usize)
-    requires { Solvable l0 l1 p0 p1 (h + 1) h n work.old }
-    ensures { work.new ≡ splice p0 p1 (each 0 n (forward_row h (part l0 l1 work.old)) (part p0 p1 work.old)) work.old }
+// Row i of L y = b, put in its place.
+#[tactic(auto, unfolding(crate::specs::Cholesky::forward_row, crate::specs::Cholesky::forward_point))]
+fn forward_row(lower: &[f64], poles: &mut [f64], h: usize, i: usize)
+    requires { HasRow (h + 1) lower.now i × (3 * i + 3 ≤ length poles.old) }
+    ensures { poles.new ≡ forward_row h lower.now i poles.old }
 {
-    let w = h + 1;
+    Band::lower(lower, h).solve_row(poles, i, i.saturating_sub(h), i);
+}
+
+// L y = b in place.
+#[tactic(auto, using(bands::proofs::Rows::loops))]
+fn forward_rows(lower: &[f64], poles: &mut [f64], h: usize, n: usize)
+    requires { HasSystem (h + 1) h n lower.now poles.old }
+    ensures { poles.new ≡ each 0 n (forward_row h lower.now) poles.old }
+{
     for i in 0..n {
-        let start = bands::row_start(h, i);
-        bands::solve_row(work, l0, l1, p0, p1, w, h, i, start, i);
+        forward_row(lower, poles, h, i);
     }
 }
 
 // Row i of L' x = y, from the x after it: the entries of column i of L.
+#[tactic(auto, using(bands::proofs::Rows::loops), unfolding(crate::specs::Cholesky::back_point))]
 fn back_point(lower: &[f64], poles: &[f64], h: usize, n: usize, i: usize) -> Point
-    requires { (h ≤ 25) × (i < n) × (n * (h + 1) ≤ length lower.now) × (3 * n ≤ length poles.now) }
+    requires { HasSystem (h + 1) h n lower.now poles.now × (i < n) }
     ensures { result ≡ back_point h n lower.now poles.now i }
 {
-    let w = h + 1;
-    let end = bands::row_end(h, n, i);
+    let band = Band::lower(lower, h);
     let mut x = geometry::point_at(poles, i);
-    for k in i + 1..end {
-        x = x.less_scaled(
-            bands::band_entry(lower, w, h, k, i),
-            geometry::point_at(poles, k),
-        );
+    for k in i + 1..(i + h + 1).min(n) {
+        x = x.less_scaled(band.entry(k, i), geometry::point_at(poles, k));
     }
-    x.scaled(1.0 / bands::band_entry(lower, w, h, i, i))
+    x.scaled(1.0 / band.entry(i, i))
 }
 
-// The same in a work slice, put in its place: the factor is at l0..l1 and the points at p0..p1.
-pub fn back_row(
-    work: &mut [f64],
-    l0: usize,
-    l1: usize,
-    p0: usize,
-    p1: usize,
-    h: usize,
-    n: usize,
-    i: usize,
-)
-    requires { Solvable l0 l1 p0 p1 (h + 1) h n work.old × (i < n) }
-    ensures { work.new ≡ splice p0 p1 (back_row h n (part l0 l1 work.old) i (part p0 p1 work.old)) work.old }
+// The same, put in its place.
+#[tactic(auto, unfolding(crate::specs::Cholesky::back_row))]
+fn back_row(lower: &[f64], poles: &mut [f64], h: usize, n: usize, i: usize)
+    requires { HasSystem (h + 1) h n lower.now poles.old × (i < n) }
+    ensures { poles.new ≡ back_row h n lower.now i poles.old }
 {
-    let whole = &work[..];
-    let q = back_point(&whole[l0..l1], &whole[p0..p1], h, n, i);
-    geometry::put_point(&mut work[p0..p1], i, q);
+    let x = back_point(lower, poles, h, n, i);
+    geometry::put_point(poles, i, x);
 }
 
 // L' x = y in place.
-fn back_rows(work: &mut [f64], l0: usize, l1: usize, p0: usize, p1: usize, h: usize, n: usize)
-    requires { Solvable l0 l1 p0 p1 (h + 1) h n work.old }
-    ensures { work.new ≡ splice p0 p1 (down n (back_row h n (part l0 l1 work.old)) (part p0 p1 work.old)) work.old }
+#[tactic(auto, using(bands::proofs::Rows::loops))]
+fn back_rows(lower: &[f64], poles: &mut [f64], h: usize, n: usize)
+    requires { HasSystem (h + 1) h n lower.now poles.old }
+    ensures { poles.new ≡ down n (back_row h n lower.now) poles.old }
 {
-    let mut i = n;
-    while 0 < i {
-        i -= 1;
-        back_row(work, l0, l1, p0, p1, h, n, i);
+    for i in (0..n).rev() {
+        back_row(lower, poles, h, n, i);
     }
 }
 
-// Solves L L' x = b in place for n points, with the factor at l0..l1 and the points at p0..p1.
-pub fn substitute_symmetric_band(
-    work: &mut [f64],
-    l0: usize,
-    l1: usize,
-    p0: usize,
-    p1: usize,
-    h: usize,
-    n: usize,
-)
-    requires { Solvable l0 l1 p0 p1 (h + 1) h n work.old }
-    ensures { work.new ≡ splice p0 p1 (substitute_symmetric_band h n (part l0 l1 work.old) (part p0 p1 work.old)) work.old }
+// Solves L L' x = b in place for n points.
+#[tactic(auto, unfolding(crate::specs::Cholesky::substitute_symmetric_band))]
+pub fn substitute_symmetric_band(lower: &[f64], poles: &mut [f64], h: usize, n: usize)
+    requires { HasSystem (h + 1) h n lower.now poles.old }
+    ensures { poles.new ≡ substitute_symmetric_band h n lower.now poles.old }
 {
-    forward_rows(work, l0, l1, p0, p1, h, n);
-    back_rows(work, l0, l1, p0, p1, h, n);
+    forward_rows(lower, poles, h, n);
+    back_rows(lower, poles, h, n);
 }

@@ -3,7 +3,7 @@
 use mathlib.Core.Path.{◌≡◌, refl, sym, ◌∙◌, ap}
 use mathlib.Core.Bool.{cond}
 use mathlib.Core.List.{List, [], ◌++◌, append-nil}
-use mathlib.Core.Logic.{inl}
+use mathlib.Core.Logic.{inl, inr}
 use Prim.Native.Nat.{ℕ, ◌+◌, ◌-◌, ◌*◌, ◌<◌, ◌≤◌}
 use native.Mathlib.Omega.{arith}
 use native.Mathlib.Nat.{add_assoc}
@@ -17,7 +17,7 @@ use Rattle.places.proofs.RegionLaws.{splice-part, set-append-add}
 use Rattle.geometry.specs.Doubles.{◌⊖◌, ◌⊗◌, ◌⊘◌, nought, one, at}
 use Rattle.geometry.specs.declared.Point.{Point}
 use Rattle.geometry.specs.Points.{point_at, put_point, less_scaled, scaled}
-use Rattle.geometry.proofs.PointLaws.{point_stays}
+use Rattle.geometry.proofs.PointLaws.{point_put, point_stays}
 use Rattle.bands.specs.Bands.{place, entry, reach}
 use Rattle.lu.specs.BandLu.{band_entry, less_pivot, less_multiple, eliminate_row, eliminate, less_point, forward_step, back_band_point, back_band_row}
 use Rattle.bands.specs.SolvedRow.{solved_row}
@@ -170,3 +170,6 @@ solved-two factors poles i =
 pub back_solved : (n i a b : ℕ) (band poles : List Float) → i + 1 ≡ a → reach 2 n i ≡ b → back_band_row 2 n band i poles ≡ put_point i (solved_row 5 2 band poles i a b) poles
 unfolding back_band_row back_band_point
 back_solved n i a b band poles c d = rw (c, d)
+
+-- a pivot and a row with two others beside them
+pub ruleset pairs = (forward-two, solved-two, back_solved, point_put, point_stays, less_stays, inr)

@@ -3,85 +3,78 @@
 
 pub mod narrow;
 
-ghost use Rattle.std.specs.Prelude.{◌≡◌, ◌++◌, ◌+◌, ◌-◌, ◌*◌, ◌≤◌, ◌<◌, length, drop};
+ghost use Rattle.std.specs.Prelude.{◌≡◌, ◌+◌, ◌*◌, ◌≤◌, ◌<◌, length};
 ghost use Rattle.places.specs.Loops.{each, down};
-ghost use Rattle.places.specs.Regions.{part, splice};
 ghost use Rattle.lu.specs.BandLu.{eliminate, factor_band, less_point, forward_step, back_band_row, substitute_band};
-ghost use Rattle.lu.specs.BelowPivot.{pivot_row, less_places, clear_row, clear_below};
-ghost use Rattle.bands.specs.Shapes.{HasRow, Solvable};
+ghost use Rattle.lu.specs.BelowPivot.{less_places, clear_row, clear_below};
+ghost use Rattle.bands.specs.Shapes.{HasRow, HasSystem};
 
+use bands::Band;
 use geometry::Point;
 
-// Puts the multiplier at `at`, and where it is not 0 takes that multiple of what stands after the pivot off the `count` places after it.
-fn less_places(rest: &mut [f64], at: usize, count: usize, pivot: &[f64], multiplier: f64)
-    requires { (count ≤ length pivot.now) × (at + count < length rest.old) }
-    ensures { rest.new ≡ less_places at count pivot.now multiplier rest.old }
+// Puts the multiplier at `at`, and where it is not 0 takes that multiple of what stands after the pivot off as many places after it.
+#[tactic(auto, using(bands::proofs::Rows::loops), unfolding(crate::specs::BelowPivot::less_places, crate::specs::BelowPivot::less_place))]
+fn less_places(rest: &mut [f64], at: usize, pivot: &[f64], multiplier: f64)
+    requires { at + length pivot.now < length rest.old }
+    ensures { rest.new ≡ less_places at (length pivot.now) pivot.now multiplier rest.old }
 {
     rest[at] = multiplier;
     if multiplier == 0.0 {
         return;
     }
-    for m in 0..count {
-        let i = at + 1 + m;
-        rest[i] = rest[i] - multiplier * pivot[m];
+    for (m, x) in pivot.iter().enumerate() {
+        rest[at + 1 + m] -= multiplier * *x;
     }
 }
 
 // Row d below the pivot, whose reciprocal is `inverse`.
-fn clear_row(
-    rest: &mut [f64],
-    w: usize,
-    h: usize,
-    count: usize,
-    pivot: &[f64],
-    inverse: f64,
-    d: usize,
-)
-    requires { (count ≤ length pivot.now) × (count ≤ h) × (d < count) × (2 * h < w) × HasRow w rest.old d }
-    ensures { rest.new ≡ clear_row w h count pivot.now inverse d rest.old }
+#[tactic(auto, unfolding(crate::specs::BelowPivot::clear_row))]
+fn clear_row(rest: &mut [f64], h: usize, pivot: &[f64], inverse: f64, d: usize)
+    requires { (length pivot.now ≤ h) × (d < length pivot.now) × HasRow (2 * h + 1) rest.old d }
+    ensures { rest.new ≡ clear_row (2 * h + 1) h (length pivot.now) pivot.now inverse d rest.old }
 {
-    let at = d * w + (h - d - 1);
+    let at = d * (2 * h + 1) + (h - d - 1);
     let factor = rest[at] * inverse;
-    less_places(rest, at, count, pivot, factor);
+    less_places(rest, at, pivot, factor);
 }
 
-// The rows below the pivot that reach its column: `rest` begins with the row after the pivot's.
-fn clear_below(rest: &mut [f64], w: usize, h: usize, count: usize, pivot: &[f64], inverse: f64)
-    requires { (count ≤ length pivot.now) × (count ≤ h) × (2 * h < w) × (count * w ≤ length rest.old) }
-    ensures { rest.new ≡ clear_below w h count pivot.now inverse rest.old }
+// The rows below the pivot that reach its column, as many as there are places after it: `rest` begins with the row after the pivot's.
+#[tactic(auto, using(bands::proofs::Rows::loops), unfolding(crate::specs::BelowPivot::clear_below))]
+fn clear_below(rest: &mut [f64], h: usize, pivot: &[f64], inverse: f64)
+    requires { (length pivot.now ≤ h) × (length pivot.now * (2 * h + 1) ≤ length rest.old) }
+    ensures { rest.new ≡ clear_below (2 * h + 1) h (length pivot.now) pivot.now inverse rest.old }
 {
-    for d in 0..count {
-        clear_row(rest, w, h, count, pivot, inverse, d);
+    for d in 0..pivot.len() {
+        clear_row(rest, h, pivot, inverse, d);
     }
 }
 
-// Pivot k: what stands after it in its row is copied out, and the rows below it are lent on as a part to be written.
-fn eliminate_pivot(band: &mut [f64], h: usize, n: usize, k: usize, pivot: &mut [f64])
-    requires { (h ≤ length pivot.old) × (k < n) × (n * (2 * h + 1) ≤ length band.old) × HasRow (2 * h + 1) band.old k }
-    ensures { (band.new ≡ eliminate h n k band.old) × (pivot.new ≡ pivot_row h n k band.old ++ drop (length (pivot_row h n k band.old)) pivot.old) }
+// Pivot k: what stands after it in its row is taken off the rows below it.
+fn eliminate_pivot(band: &mut [f64], h: usize, n: usize, k: usize)
+    requires { (h ≤ 25) × (k < n) × (n * (2 * h + 1) ≤ length band.old) }
+    ensures { band.new ≡ eliminate h n k band.old }
 {
     let w = 2 * h + 1;
-    let count = bands::row_end(h, n, k) - k - 1;
+    let (done, rest) = band.split_at_mut(k * w + w);
     let start = k * w + h + 1;
-    let end = start + count;
-    places::copy(&band[start..end], pivot);
-    let inverse = 1.0 / bands::band_entry(band, w, h, k, k);
-    let below = k * w + w;
-    clear_below(&mut band[below..], w, h, count, pivot, inverse);
+    let count = (k + h + 1).min(n) - k - 1;
+    let inverse = 1.0 / Band::both(done, h).entry(k, k);
+    clear_below(rest, h, &done[start..start + count], inverse);
 }
 
 // The pivots from `start` on.
+#[tactic(auto, using(bands::proofs::Rows::loops))]
 pub fn eliminate_from(band: &mut [f64], h: usize, n: usize, start: usize)
     requires { (h ≤ 25) × (n * (2 * h + 1) ≤ length band.old) }
     ensures { band.new ≡ each start n (eliminate h n) band.old }
 {
-    let mut pivot = [0.0f64; 25];
     for k in start..n {
-        eliminate_pivot(band, h, n, k, &mut pivot);
+        eliminate_pivot(band, h, n, k);
     }
 }
 
 // LU without pivoting, in place, of n rows of half-width h.
+#[tactic(auto, unfolding(crate::specs::BandLu::factor_band))]
 pub fn factor_band(band: &mut [f64], h: usize, n: usize)
     requires { (h ≤ 25) × (n * (2 * h + 1) ≤ length band.old) }
     ensures { band.new ≡ factor_band h n band.old }
@@ -94,6 +87,7 @@ pub fn factor_band(band: &mut [f64], h: usize, n: usize)
 }
 
 // Takes factor times q off point i, where the factor is not 0.
+#[tactic(auto, unfolding(crate::specs::BandLu::less_point))]
 fn less_point(poles: &mut [f64], i: usize, factor: f64, q: Point)
     requires { 3 * i + 3 ≤ length poles.old }
     ensures { poles.new ≡ less_point i factor q poles.old }
@@ -106,86 +100,60 @@ fn less_point(poles: &mut [f64], i: usize, factor: f64, q: Point)
 }
 
 // Pivot k of L y = b: multiples of point k off the points after it.
-pub fn forward_step(
-    work: &mut [f64],
-    l0: usize,
-    l1: usize,
-    p0: usize,
-    p1: usize,
-    h: usize,
-    n: usize,
-    k: usize,
-)
-    requires { Solvable l0 l1 p0 p1 (2 * h + 1) h n work.old × (k < n) }
-    ensures { work.new ≡ splice p0 p1 (forward_step h n (part l0 l1 work.old) k (part p0 p1 work.old)) work.old }
+#[tactic(auto, using(bands::proofs::Rows::loops), unfolding(crate::specs::BandLu::forward_step))]
+fn forward_step(band: &[f64], poles: &mut [f64], h: usize, n: usize, k: usize)
+    requires { HasSystem (2 * h + 1) h n band.now poles.old × (k < n) }
+    ensures { poles.new ≡ forward_step h n band.now k poles.old }
 {
-    let w = 2 * h + 1;
-    let end = bands::row_end(h, n, k);
-    let q = geometry::point_at(&work[p0..p1], k);
-    for i in k + 1..end {
-        let factor = bands::band_entry(&work[l0..l1], w, h, i, k);
-        less_point(&mut work[p0..p1], i, factor, q);
+    let factors = Band::both(band, h);
+    let q = geometry::point_at(poles, k);
+    for i in k + 1..(k + h + 1).min(n) {
+        less_point(poles, i, factors.entry(i, k), q);
     }
 }
 
 // L y = b in place.
-pub fn forward_steps(
-    work: &mut [f64],
-    l0: usize,
-    l1: usize,
-    p0: usize,
-    p1: usize,
-    h: usize,
-    n: usize,
-)
-    requires { Solvable l0 l1 p0 p1 (2 * h + 1) h n work.old }
-    ensures { work.new ≡ splice p0 p1 (each 0 n (forward_step h n (part l0 l1 work.old)) (part p0 p1 work.old)) work.old }
+#[tactic(auto, using(bands::proofs::Rows::loops))]
+fn forward_steps(band: &[f64], poles: &mut [f64], h: usize, n: usize)
+    requires { HasSystem (2 * h + 1) h n band.now poles.old }
+    ensures { poles.new ≡ each 0 n (forward_step h n band.now) poles.old }
 {
     for k in 0..n {
-        forward_step(work, l0, l1, p0, p1, h, n, k);
+        forward_step(band, poles, h, n, k);
     }
+}
+
+// Row i of U x = y, put in its place.
+#[tactic(auto, using(bands::proofs::Rows::loops), unfolding(crate::specs::BandLu::back_band_row, crate::specs::BandLu::back_band_point))]
+fn back_band_row(band: &[f64], poles: &mut [f64], h: usize, n: usize, i: usize)
+    requires { HasSystem (2 * h + 1) h n band.now poles.old × (i < n) }
+    ensures { poles.new ≡ back_band_row h n band.now i poles.old }
+{
+    Band::both(band, h).solve_row(poles, i, i + 1, (i + h + 1).min(n));
 }
 
 // U x = y in place.
-pub fn back_band_rows(
-    work: &mut [f64],
-    l0: usize,
-    l1: usize,
-    p0: usize,
-    p1: usize,
-    h: usize,
-    n: usize,
-)
-    requires { Solvable l0 l1 p0 p1 (2 * h + 1) h n work.old }
-    ensures { work.new ≡ splice p0 p1 (down n (back_band_row h n (part l0 l1 work.old)) (part p0 p1 work.old)) work.old }
+#[tactic(auto, using(bands::proofs::Rows::loops))]
+fn back_band_rows(band: &[f64], poles: &mut [f64], h: usize, n: usize)
+    requires { HasSystem (2 * h + 1) h n band.now poles.old }
+    ensures { poles.new ≡ down n (back_band_row h n band.now) poles.old }
 {
-    let w = 2 * h + 1;
-    let mut i = n;
-    while 0 < i {
-        i -= 1;
-        let end = bands::row_end(h, n, i);
-        bands::solve_row(work, l0, l1, p0, p1, w, h, i, i + 1, end);
+    for i in (0..n).rev() {
+        back_band_row(band, poles, h, n, i);
     }
 }
 
-// Solves L U x = b in place for n points, with the factors at l0..l1 and the points at p0..p1.
-pub fn substitute_band(
-    work: &mut [f64],
-    l0: usize,
-    l1: usize,
-    p0: usize,
-    p1: usize,
-    h: usize,
-    n: usize,
-)
-    requires { Solvable l0 l1 p0 p1 (2 * h + 1) h n work.old }
-    ensures { work.new ≡ splice p0 p1 (substitute_band h n (part l0 l1 work.old) (part p0 p1 work.old)) work.old }
+// Solves L U x = b in place for n points.
+#[tactic(auto, unfolding(crate::specs::BandLu::substitute_band))]
+pub fn substitute_band(band: &[f64], poles: &mut [f64], h: usize, n: usize)
+    requires { HasSystem (2 * h + 1) h n band.now poles.old }
+    ensures { poles.new ≡ substitute_band h n band.now poles.old }
 {
     if h == 2 {
-        narrow::forward_narrow(work, l0, l1, p0, p1, n);
-        narrow::back_narrow(work, l0, l1, p0, p1, n);
+        narrow::forward_narrow(band, poles, n);
+        narrow::back_narrow(band, poles, n);
         return;
     }
-    forward_steps(work, l0, l1, p0, p1, h, n);
-    back_band_rows(work, l0, l1, p0, p1, h, n);
+    forward_steps(band, poles, h, n);
+    back_band_rows(band, poles, h, n);
 }

@@ -2,14 +2,14 @@
 // waits for a place that was written just before.
 ghost use Rattle.std.specs.Prelude.{◌≡◌, ◌+◌, ◌-◌, ◌*◌, ◌≤◌, ◌<◌, length};
 ghost use Rattle.places.specs.Loops.{each, down};
-ghost use Rattle.places.specs.Regions.{part, splice};
 ghost use Rattle.geometry.specs.Doubles.{at};
 ghost use Rattle.geometry.specs.Points.{point_at};
 ghost use Rattle.lu.specs.BandLu.{eliminate, factor_band, less_point, forward_step, back_band_row};
 ghost use Rattle.lu.specs.Narrow.{less_pair, Carried, Known};
-ghost use Rattle.bands.specs.Shapes.{Solvable};
+ghost use Rattle.bands.specs.Shapes.{HasRow, HasSystem};
 ghost use Rattle.bands.specs.SolvedRow.{solved_row};
 
+use bands::Band;
 use geometry::Point;
 
 // Two neighbouring places of a row.
@@ -31,6 +31,7 @@ pub struct Ahead {
 }
 
 // The multiplier put at `from`, and where it is not 0 that multiple of the pivot's row taken off x and y, which stand after it. Returns what stands there then.
+#[tactic(auto, unfolding(crate::specs::Narrow::less_pair))]
 fn less_pair(
     band: &mut [f64],
     from: usize,
@@ -95,6 +96,7 @@ fn first_ahead(band: &[f64]) -> Ahead
 }
 
 // All pivots of n rows; the last two, which reach fewer rows, by the way for every width.
+#[tactic(auto, using(bands::proofs::Rows::loops), unfolding(crate::specs::BandLu::factor_band))]
 pub fn factor_narrow(band: &mut [f64], n: usize)
     requires { n * 5 ≤ length band.old }
     ensures { band.new ≡ factor_band 2 n band.old }
@@ -130,6 +132,7 @@ fn points_at(poles: &[f64], k: usize) -> Points
 }
 
 // Takes factor times q off point i, which is `old`, where the factor is not 0. Returns what stands there then.
+#[tactic(auto, using(crate::proofs::NarrowLaws::pairs), unfolding(crate::specs::BandLu::less_point))]
 fn less_known(poles: &mut [f64], i: usize, factor: f64, q: Point, old: Point) -> Point
     requires { (3 * i + 3 ≤ length poles.old) × (old ≡ point_at poles.old i) }
     ensures { (poles.new ≡ less_point i factor q poles.old) × (result ≡ point_at poles.new i) }
@@ -143,6 +146,7 @@ fn less_known(poles: &mut [f64], i: usize, factor: f64, q: Point, old: Point) ->
 }
 
 // Multiples of point k off the two after it, with points k and k + 1 known. Returns points k + 1 and k + 2.
+#[tactic(auto, using(crate::proofs::NarrowLaws::pairs))]
 fn less_two(poles: &mut [f64], k: usize, near: f64, far: f64, known: Points) -> Points
     requires { (3 * k + 9 ≤ length poles.old) × Known k known poles.old }
     ensures { (poles.new ≡ less_point (k + 2) far known.first (less_point (k + 1) near known.first poles.old)) × Known (k + 1) result poles.new }
@@ -154,101 +158,86 @@ fn less_two(poles: &mut [f64], k: usize, near: f64, far: f64, known: Points) -> 
 }
 
 // Pivot k of L y = b, above two rows that reach its column.
-fn forward_ahead(
-    work: &mut [f64],
-    l0: usize,
-    l1: usize,
-    p0: usize,
-    p1: usize,
-    n: usize,
-    k: usize,
-    known: Points,
-) -> Points
-    requires { Solvable l0 l1 p0 p1 5 2 n work.old × (k + 2 < n) × Known k known (part p0 p1 work.old) }
-    ensures { (work.new ≡ splice p0 p1 (forward_step 2 n (part l0 l1 work.old) k (part p0 p1 work.old)) work.old)
-        × Known (k + 1) result (part p0 p1 work.new) }
+#[tactic(auto, using(crate::proofs::NarrowLaws::pairs))]
+fn forward_ahead(band: &[f64], poles: &mut [f64], n: usize, k: usize, known: Points) -> Points
+    requires { HasSystem 5 2 n band.now poles.old × (k + 2 < n) × Known k known poles.old }
+    ensures { (poles.new ≡ forward_step 2 n band.now k poles.old) × Known (k + 1) result poles.new }
 {
-    let near = bands::band_entry(&work[l0..l1], 5, 2, k + 1, k);
-    let far = bands::band_entry(&work[l0..l1], 5, 2, k + 2, k);
-    less_two(&mut work[p0..p1], k, near, far, known)
+    let factors = Band::both(band, 2);
+    let near = factors.entry(k + 1, k);
+    let far = factors.entry(k + 2, k);
+    less_two(poles, k, near, far, known)
 }
 
 // L y = b in place; the last two pivots by the way for every width.
-pub fn forward_narrow(work: &mut [f64], l0: usize, l1: usize, p0: usize, p1: usize, n: usize)
-    requires { Solvable l0 l1 p0 p1 5 2 n work.old }
-    ensures { work.new ≡ splice p0 p1 (each 0 n (forward_step 2 n (part l0 l1 work.old)) (part p0 p1 work.old)) work.old }
+#[tactic(auto, using(bands::proofs::Rows::loops))]
+pub fn forward_narrow(band: &[f64], poles: &mut [f64], n: usize)
+    requires { HasSystem 5 2 n band.now poles.old }
+    ensures { poles.new ≡ each 0 n (forward_step 2 n band.now) poles.old }
 {
     if n < 2 {
-        super::forward_steps(work, l0, l1, p0, p1, 2, n);
+        super::forward_steps(band, poles, 2, n);
         return;
     }
-    let mut known = points_at(&work[p0..p1], 0);
+    let mut known = points_at(poles, 0);
     let most = n - 2;
     for k in 0..most {
-        known = forward_ahead(work, l0, l1, p0, p1, n, k, known);
+        known = forward_ahead(band, poles, n, k, known);
     }
-    super::forward_step(work, l0, l1, p0, p1, 2, n, most);
-    super::forward_step(work, l0, l1, p0, p1, 2, n, most + 1);
+    super::forward_step(band, poles, 2, n, most);
+    super::forward_step(band, poles, 2, n, most + 1);
 }
 
 // Row i of U x = y, with points i + 1 and i + 2 known.
-fn back_known(factors: &[f64], poles: &[f64], i: usize, known: Points) -> Point
-    requires { (i * 5 + 5 ≤ length factors.now) × (3 * i + 9 ≤ length poles.now) × Known (i + 1) known poles.now }
-    ensures { result ≡ solved_row 5 2 factors.now poles.now i (i + 1) (i + 3) }
+#[tactic(auto, using(crate::proofs::NarrowLaws::pairs))]
+fn back_known(band: &[f64], poles: &[f64], i: usize, known: Points) -> Point
+    requires { HasRow 5 band.now i × (3 * i + 9 ≤ length poles.now) × Known (i + 1) known poles.now }
+    ensures { result ≡ solved_row 5 2 band.now poles.now i (i + 1) (i + 3) }
 {
-    let near = bands::band_entry(factors, 5, 2, i, i + 1);
-    let far = bands::band_entry(factors, 5, 2, i, i + 2);
-    let x = geometry::point_at(poles, i).less_scaled(near, known.first);
-    let y = x.less_scaled(far, known.second);
-    y.scaled(1.0 / bands::band_entry(factors, 5, 2, i, i))
+    let factors = Band::both(band, 2);
+    let x = geometry::point_at(poles, i).less_scaled(factors.entry(i, i + 1), known.first);
+    let y = x.less_scaled(factors.entry(i, i + 2), known.second);
+    y.scaled(1.0 / factors.entry(i, i))
 }
 
-// The same put in its place. Returns points i and i + 1.
-fn back_ahead(
-    work: &mut [f64],
-    l0: usize,
-    l1: usize,
-    p0: usize,
-    p1: usize,
-    n: usize,
-    i: usize,
-    known: Points,
-) -> Points
-    requires { Solvable l0 l1 p0 p1 5 2 n work.old × (i + 2 < n) × Known (i + 1) known (part p0 p1 work.old) }
-    ensures { (work.new ≡ splice p0 p1 (back_band_row 2 n (part l0 l1 work.old) i (part p0 p1 work.old)) work.old)
-        × Known i result (part p0 p1 work.new) }
+// The same, put in its place. Returns points i and i + 1.
+#[tactic(auto, using(crate::proofs::NarrowLaws::pairs))]
+fn back_ahead(band: &[f64], poles: &mut [f64], n: usize, i: usize, known: Points) -> Points
+    requires { HasSystem 5 2 n band.now poles.old × (i + 2 < n) × Known (i + 1) known poles.old }
+    ensures { (poles.new ≡ back_band_row 2 n band.now i poles.old) × Known i result poles.new }
 {
-    let whole = &work[..];
-    let x = back_known(&whole[l0..l1], &whole[p0..p1], i, known);
-    geometry::put_point(&mut work[p0..p1], i, x);
-    let second = known.first;
-    Points { first: x, second }
+    let x = back_known(band, poles, i, known);
+    geometry::put_point(poles, i, x);
+    Points {
+        first: x,
+        second: known.first,
+    }
 }
 
 // The rows of U x = y before the last two.
-fn back_rest(work: &mut [f64], l0: usize, l1: usize, p0: usize, p1: usize, n: usize)
-    requires { Solvable l0 l1 p0 p1 5 2 n work.old × (2 ≤ n) }
-    ensures { work.new ≡ splice p0 p1 (down (n - 2) (back_band_row 2 n (part l0 l1 work.old)) (part p0 p1 work.old)) work.old }
+#[tactic(auto, using(bands::proofs::Rows::loops))]
+fn back_rest(band: &[f64], poles: &mut [f64], n: usize)
+    requires { HasSystem 5 2 n band.now poles.old × (2 ≤ n) }
+    ensures { poles.new ≡ down (n - 2) (back_band_row 2 n band.now) poles.old }
 {
-    let mut i = n - 2;
-    let mut known = points_at(&work[p0..p1], i);
-    while 0 < i {
-        i -= 1;
-        known = back_ahead(work, l0, l1, p0, p1, n, i, known);
+    let most = n - 2;
+    let mut known = points_at(poles, most);
+    for i in (0..most).rev() {
+        known = back_ahead(band, poles, n, i, known);
     }
 }
 
 // U x = y in place; the last two rows by the way for every width.
-pub fn back_narrow(work: &mut [f64], l0: usize, l1: usize, p0: usize, p1: usize, n: usize)
-    requires { Solvable l0 l1 p0 p1 5 2 n work.old }
-    ensures { work.new ≡ splice p0 p1 (down n (back_band_row 2 n (part l0 l1 work.old)) (part p0 p1 work.old)) work.old }
+#[tactic(auto, using(bands::proofs::Rows::loops))]
+pub fn back_narrow(band: &[f64], poles: &mut [f64], n: usize)
+    requires { HasSystem 5 2 n band.now poles.old }
+    ensures { poles.new ≡ down n (back_band_row 2 n band.now) poles.old }
 {
     if n < 2 {
-        super::back_band_rows(work, l0, l1, p0, p1, 2, n);
+        super::back_band_rows(band, poles, 2, n);
         return;
     }
-    let most = n - 2;
-    bands::solve_row(work, l0, l1, p0, p1, 5, 2, most + 1, n, n);
-    bands::solve_row(work, l0, l1, p0, p1, 5, 2, most, most + 1, n);
-    back_rest(work, l0, l1, p0, p1, n);
+    super::back_band_row(band, poles, 2, n, n - 1);
+    super::back_band_row(band, poles, 2, n, n - 2);
+    back_rest(band, poles, n);
 }

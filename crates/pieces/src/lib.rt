@@ -170,7 +170,8 @@ pub extern "C" fn pieces_substitute_symmetric_band(
     requires { Solvable l0 l1 p0 p1 (h + 1) h n work.old }
     ensures { work.new ≡ splice p0 p1 (substitute_symmetric_band h n (part l0 l1 work.old) (part p0 p1 work.old)) work.old }
 {
-    cholesky::substitute_symmetric_band(work, l0, l1, p0, p1, h, n);
+    let (head, tail) = work.split_at_mut(p0);
+    cholesky::substitute_symmetric_band(&head[l0..l1], &mut tail[..p1 - p0], h, n);
 }
 
 #[unsafe(no_mangle)]
@@ -194,5 +195,6 @@ pub extern "C" fn pieces_substitute_band(
     requires { Solvable l0 l1 p0 p1 (2 * h + 1) h n work.old }
     ensures { work.new ≡ splice p0 p1 (substitute_band h n (part l0 l1 work.old) (part p0 p1 work.old)) work.old }
 {
-    lu::substitute_band(work, l0, l1, p0, p1, h, n);
+    let (head, tail) = work.split_at_mut(p0);
+    lu::substitute_band(&head[l0..l1], &mut tail[..p1 - p0], h, n);
 }

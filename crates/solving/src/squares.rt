@@ -1,5 +1,5 @@
 // Least-squares poles of lines of data (`least_squares`): the normal equations A'A x = A'b in regions of the work, factored once for all the lines.
-ghost use Rattle.std.specs.Prelude.{◌≡◌, ℕ, ◌+◌, ◌-◌, ◌*◌, ◌≤◌, ◌<◌, List, length, Float};
+ghost use Rattle.std.specs.Prelude.{◌≡◌, ℕ, ◌+◌, ◌-◌, ◌*◌, ◌≤◌, ◌<◌, List, length, take, drop, Float};
 ghost use Rattle.places.specs.Loops.{each};
 ghost use Rattle.places.specs.Places.{joined, all_below};
 ghost use Rattle.places.specs.Regions.{part, splice};
@@ -10,6 +10,7 @@ ghost use Rattle.solving.specs.LeastSquares.{add_product, normal_matrix, add_dat
 ghost use Rattle.tables.specs.Layout.{table_in, data_point, HasTable, HasData, HasSquares, Squared};
 ghost use Rattle.solving.specs.Steps.{add_row_product, add_row_value, add_to_pole, OntoBand, OntoPoles};
 
+use bands::Band;
 use cholesky::together::substitute_together;
 use cholesky::{factor_symmetric_band, substitute_symmetric_band};
 use geometry::Point;
@@ -37,7 +38,7 @@ fn add_products(
     for c in 0..a + 1 {
         let j = first + c;
         let product = x * work[row + c];
-        let old = bands::band_entry(&work[band..end], w, p, i, j);
+        let old = Band::lower(&work[band..end], p).entry(i, j);
         bands::put_band_entry(&mut work[band..end], w, p, i, j, old + product);
     }
 }
@@ -218,12 +219,12 @@ fn solve_line(
 {
     let p = table.degree;
     let end = band + m * (p + 1);
-    let to = poles + 3 * m;
     right_hand(work, index, points, table, given, r, m, poles);
-    substitute_symmetric_band(work, band, end, poles, to, p, m);
+    let (head, tail) = work.split_at_mut(poles);
+    substitute_symmetric_band(&head[band..end], &mut tail[..3 * m], p, m);
 }
 
-// A'b for each line, m poles a line, those of line r from place `poles` + 3 r m on.
+// A'b for each line, m poles a line, those of line r from place `poles` + 3 r m on; what stands before them stays.
 fn right_hands(
     work: &mut [f64],
     index: &[usize],
@@ -235,8 +236,9 @@ fn right_hands(
     poles: usize,
 )
     requires { HasSquares table given m band poles points.now work.old index.now }
-    ensures { EachLine poles m given.lines (λ (r : ℕ) (x : List Float). right_hand (table_in table work.old index.now) m (data_point given points.now work.old r))
-        work.old work.new }
+    ensures front { take poles work.new ≡ take poles work.old }
+    ensures lines { EachLine m given.lines (λ (r : ℕ) (x : List Float). right_hand (table_in table work.old index.now) m (data_point given points.now work.old r))
+        (drop poles work.old) (drop poles work.new) }
 {
     for r in 0..given.lines {
         let start = poles + 3 * (r * m);
@@ -267,7 +269,8 @@ fn solve_lines(
     let p = table.degree;
     let end = band + m * (p + 1);
     right_hands(work, index, points, table, given, m, band, poles);
-    substitute_together(work, band, end, poles, given.lines, p, m);
+    let (head, tail) = work.split_at_mut(poles);
+    substitute_together(&head[band..end], tail, given.lines, p, m);
 }
 
 // Least-squares poles, m of them for each line, those of line r from place `poles` + 3 r m on; false where the data leaves a pole (nearly) undetermined

@@ -106,7 +106,8 @@ pub fn interpolated_line(
     ensures { work.new ≡ splice from to (line_through h n (part band end work.old) (data_point given points.now work.old r)) work.old }
 {
     put_line(work, points, given, r, n, from, to);
-    lu::substitute_band(work, band, end, from, to, h, n);
+    let (head, tail) = work.split_at_mut(from);
+    lu::substitute_band(&head[band..end], &mut tail[..to - from], h, n);
     let first = tables::datum::data_point(points, work, given, r, 0);
     geometry::put_point(&mut work[from..to], 0, first);
     let last = tables::datum::data_point(points, work, given, r, n - 1);

@@ -1,7 +1,7 @@
 -- The loop's invariant: what the rows that are left make of the point is what all of them make of point i. Assumes nothing.
 use mathlib.Core.Path.{◌≡◌}
 use mathlib.Core.List.{List}
-use Prim.Native.Nat.{ℕ, ◌+◌, ◌-◌, ◌<◌}
+use Prim.Native.Nat.{ℕ, ◌+◌}
 use lib.Ieee.{Float}
 use Rattle.places.specs.Loops.{each}
 use Rattle.geometry.specs.declared.Point.{Point}
@@ -10,11 +10,10 @@ use Rattle.bands.specs.Bands.{reach}
 use Rattle.cholesky.specs.Cholesky.{lower_entry}
 use Rattle.cholesky.proofs.back_point.Given as goal
 
-abbrev pub turn : ℕ → List Float → List Float → ℕ → ℕ → Point → Point
+abbrev turn : ℕ → List Float → List Float → ℕ → ℕ → Point → Point
 turn h lower poles i k x = less_scaled x (lower_entry h lower k i) (point_at poles k)
 
 abbrev pub invariant-loop-k : goal.invariant-loop-k
-invariant-loop-k l = (l.i < l.k) × (l.end ≡ reach l.h l.n l.i) × (each l.k l.end (turn l.h l.lower l.poles l.i) l.x ≡ each (l.i + 1) l.end (turn l.h l.lower l.poles l.i) (point_at l.poles l.i))
-
-abbrev pub decreases-loop-k : goal.decreases-loop-k
-decreases-loop-k l = l.end - l.k
+invariant-loop-k l =
+    let f : ℕ → Point → Point = turn l.h l.lower l.poles l.i in
+    each l.k (reach l.h l.n l.i) f l.x ≡ each (l.i + 1) (reach l.h l.n l.i) f (point_at l.poles l.i)

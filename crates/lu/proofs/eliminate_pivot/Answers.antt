@@ -1,21 +1,22 @@
--- By the law that clearing the rows below the pivot, with what stands after it copied out, is a step of elimination. Assumes nothing.
-use Prim.Native.Nat.{ℕ, ◌+◌, ◌-◌, ◌*◌}
+-- By the law that clearing the rows below the pivot, with its row lent from what stands before them, is a step of elimination. Assumes nothing.
+use Prim.Native.Nat.{◌+◌, ◌*◌}
 use native.Mathlib.Omega.{arith}
-use lib.ListN.{length}
-use Rattle.places.proofs.RegionLaws.{length_part}
 use Rattle.bands.proofs.Rows.{rows-after}
-use Rattle.lu.proofs.PivotLaws.{eliminate_by_copy}
+use Rattle.lu.specs.BelowPivot.{after_pivot}
+use Rattle.lu.proofs.PivotLaws.{length_pivot-row, eliminate_parts}
 use Rattle.lu.proofs.eliminate_pivot.Goals as goal
 
 pub clear_below-requires : goal.clear_below-requires
 clear_below-requires c =
+    let split = c.split_at_mut-done in
     let a = c.args in
-    let w : ℕ = 2 * a.h + 1 in
-    let below : ℕ = a.k * w + w in
-    omega (arith, rows-after w a.k (c.row_end.result - a.k - 1) a.n (omega arith), length_part below (length a.band.now) a.band.now (omega arith))
+    let count = after_pivot a.h a.n a.k in
+    rw (c.min.ensures, length_pivot-row a.h a.n a.k split.result.0.now (omega arith) split.ensures.front_len)
+    (omega arith, omega (arith, rows-after (2 * a.h + 1) a.k count a.n (omega arith), split.ensures.front_len, split.ensures.back_len))
 
 pub returns : goal.returns
 returns c =
-    let f = c.copy in
+    let split = c.split_at_mut-done in
     let a = c.args in
-    (rw (c.clear_below.ensures, f.ensures, c.row_end.ensures, c.band_entry-inverse.ensures) (eliminate_by_copy a.h a.n a.k a.band.now _ (omega arith) (omega arith)), rw (f.ensures, c.row_end.ensures))
+    rw (c.clear_below.ensures, c.entry-inverse.ensures, c.both.ensures, c.min.ensures, split.ensures.value)
+    (eliminate_parts a.h a.n a.k split.result.0.now (omega arith) split.ensures.front_len split.result.1.now (rw split.ensures.value at c.requires.2))

@@ -5,19 +5,16 @@ use Rattle.places.proofs.LoopLaws.{while_split}
 use Rattle.cholesky.specs.Cholesky.{factor_row}
 use Rattle.cholesky.proofs.carried.factor_carried.Goals as goal
 
-pub returns-then-n-lt3 : goal.returns-then-n-lt3
-returns-then-n-lt3 c = c.factor_rows.ensures
-
-pub returns-then-not-factor_rows : goal.returns-then-not-factor_rows
+pub returns-then-factor_rows : goal.returns-then-factor_rows
 unfolding and_then
-returns-then-not-factor_rows c =
+returns-then-factor_rows c =
     let a = c.args in
-    let e = rw c.if-not-factor_rows.true at c.factor_rows-2.ensures in
-    rw (while_split (factor_row 3 a.floor) 0 3 a.n a.lower.now (omega arith) (omega arith), ← e)
+    let split = while_split (factor_row 3 a.floor) 0 3 a.n a.lower.now (omega arith) (omega arith) in
+    grind (arith, split)
 
-pub returns : goal.returns
+pub returns-else-factor_rows : goal.returns-else-factor_rows
 unfolding and_then
-returns c =
+returns-else-factor_rows c =
     let a = c.args in
-    let e = rw c.if-not-factor_rows.false at c.factor_rows-2.ensures in
-    rw (while_split (factor_row 3 a.floor) 0 3 a.n a.lower.now (omega arith) (omega arith), ← e) c.factor_rest.ensures
+    let split = while_split (factor_row 3 a.floor) 0 3 a.n a.lower.now (omega arith) (omega arith) in
+    grind (arith, split)

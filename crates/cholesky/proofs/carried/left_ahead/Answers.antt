@@ -1,18 +1,8 @@
 -- By the laws of a row below three rows: what is put is the row's left part, and what is carried stays. Assumes nothing.
 use mathlib.Core.Path.{sym}
 use native.Mathlib.Omega.{arith}
-use lib.ListN.{length-set}
 use Rattle.cholesky.proofs.CarriedLaws.{far_all, middle_all, near_all, left_all, rest_all, above_all}
 use Rattle.cholesky.proofs.carried.left_ahead.Goals as goal
-
-pub bounds-lower-start-6 : goal.bounds-lower-start-6
-bounds-lower-start-6 c = simp length-set (omega arith)
-
-pub bounds-lower-start-7 : goal.bounds-lower-start-7
-bounds-lower-start-7 c = simp length-set (omega arith)
-
-pub shape_of-lower : goal.shape_of-lower
-shape_of-lower c = simp length-set
 
 pub returns : goal.returns
 returns c =

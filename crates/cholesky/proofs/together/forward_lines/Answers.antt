@@ -1,52 +1,18 @@
 -- Before turn r row i of the first r lines is solved, and the other lines are as they were. Assumes nothing.
 use mathlib.Core.Path.{◌≡◌, ◌∙◌}
 use mathlib.Core.List.{List}
-use Prim.Native.Nat.{ℕ, ◌+◌, ◌*◌}
-use native.Mathlib.Omega.{arith}
+use Prim.Native.Nat.{ℕ, ◌*◌}
 use lib.ListN.{length}
 use lib.Ieee.{Float}
-use Rattle.places.specs.Regions.{part}
-use Rattle.places.proofs.PlaceLaws.{row_inside}
-use Rattle.cholesky.specs.Cholesky.{forward_row, forward_point}
+use Rattle.cholesky.specs.Cholesky.{forward_row}
 use Rattle.cholesky.proofs.Lengths.{length_forward-row}
-use Rattle.cholesky.proofs.TogetherLaws.{done_none, done_next, done_all, factor_stays}
+use Rattle.cholesky.proofs.TogetherLaws.{done_next}
 use Rattle.cholesky.proofs.together.forward_lines.Goals as goal
 
-pub loop-r-init : goal.loop-r-init
-loop-r-init c = done_none _ _ _ _ _
-
-pub overflow_mul-p : goal.overflow_mul-p
-overflow_mul-p c = omega (arith, row_inside c.loop-r.r c.args.lines c.args.n (omega arith))
-
-pub overflow_mul-p-in-loop-r : goal.overflow_mul-p-in-loop-r
-overflow_mul-p-in-loop-r c = omega (arith, row_inside c.loop-r.r c.args.lines c.args.n (omega arith))
-
-pub overflow_add-p : goal.overflow_add-p
-overflow_add-p c = omega (arith, row_inside c.loop-r.r c.args.lines c.args.n (omega arith))
-
-pub overflow_mul-n : goal.overflow_mul-n
-overflow_mul-n c = omega (arith, row_inside c.loop-r.r c.args.lines c.args.n (omega arith))
-
-pub overflow_add-p-in-loop-r : goal.overflow_add-p-in-loop-r
-overflow_add-p-in-loop-r c = omega (arith, row_inside c.loop-r.r c.args.lines c.args.n (omega arith))
-
-pub solve_row-requires : goal.solve_row-requires
-solve_row-requires c =
-    let a = c.args in
-    omega (arith, row_inside c.loop-r.r c.args.lines c.args.n (omega arith), row_inside a.i a.n (a.h + 1) (omega arith))
-
 pub loop-r-preserved : goal.loop-r-preserved
-unfolding forward_row forward_point
 loop-r-preserved c =
     let a = c.args in
     let l = c.loop-r in
-    let stays = factor_stays a.l0 a.l1 a.p0 a.work.now l.work c.requires.0.factors c.requires.0.apart l.invariant.front in
-    let put = rw c.row_start-start.ensures at c.solve_row.ensures in
-    done_next a.p0 a.n a.lines (λ (r : ℕ). forward_row a.h (part a.l0 a.l1 a.work.now) a.i) a.work.now
-    (λ (k : ℕ) (x : List Float) (e : length x ≡ 3 * a.n). length_forward-row a.h (part a.l0 a.l1 a.work.now) a.i x ∙ e) c.requires.0.fits l.work _ l.r l.invariant c.loop-r-test.true (rw stays at put)
-
-pub shape_of-work : goal.shape_of-work
-shape_of-work c = c.loop-r.invariant.long
-
-pub returns : goal.returns
-returns c = done_all _ _ _ _ _ c.loop-r.work c.loop-r.r c.loop-r.invariant (omega arith)
+    done_next a.n a.lines (λ (r : ℕ). forward_row a.h a.lower.now a.i) a.poles.now
+    (λ (k : ℕ) (x : List Float) (e : length x ≡ 3 * a.n). length_forward-row a.h a.lower.now a.i x ∙ e) c.requires.0.fits l.poles _ l.r l.invariant c.loop-r-test.true
+    (rw c.forward_row.ensures)

@@ -10,26 +10,10 @@ use Rattle.solving.proofs.SquareLaws.{length-row_product, pole-row, band-apart}
 use native.Mathlib.Omega.{arith}
 use Rattle.solving.proofs.squares.add_products.Goals as goal
 
-pub overflow_add-i : goal.overflow_add-i
-overflow_add-i c = omega (arith, pole-row c.args.first c.args.p c.args.a _ c.requires.1 c.requires.0.poles)
-
 pub loop-c-init : goal.loop-c-init
 loop-c-init c =
     let a = c.args in
     going_start a.band a.end a.row (a.row + (a.p + 1)) (add_row_product a.p a.first a.a a.x) (length-row_product a.p a.first a.a a.x) a.work.now (band-apart c.requires.0) 0 (a.a + 1)
-
-pub overflow_add-j : goal.overflow_add-j
-overflow_add-j c = omega (arith, pole-row c.args.first c.args.p c.args.a _ c.requires.1 c.requires.0.poles)
-
-pub band_entry-old-requires : goal.band_entry-old-requires
-band_entry-old-requires c =
-    let w = c.loop-c.work in
-    omega (arith, pole-row c.args.first c.args.p c.args.a _ c.requires.1 c.requires.0.poles, length_part c.args.band c.args.end w (omega arith))
-
-pub put_band_entry-requires : goal.put_band_entry-requires
-put_band_entry-requires c =
-    let w = c.loop-c.work in
-    omega (arith, pole-row c.args.first c.args.p c.args.a _ c.requires.1 c.requires.0.poles, length_part c.args.band c.args.end w (omega arith))
 
 pub loop-c-preserved : goal.loop-c-preserved
 unfolding add_row_product
@@ -38,7 +22,7 @@ loop-c-preserved c =
     let w : List Float = c.loop-c.work in
     let row : List Float = part a.row (a.row + (a.p + 1)) w in
     let put : c.put_band_entry.new.band ≡ add_row_product a.p a.first a.a a.x row c.loop-c.c (part a.band a.end w) =
-    c.put_band_entry.ensures ∙ rw (c.band_entry-old.ensures, get_d_part a.row (a.row + (a.p + 1)) w c.loop-c.c nan (omega arith)) in
+    c.put_band_entry.ensures ∙ rw (c.entry-old.ensures, c.lower.ensures, get_d_part a.row (a.row + (a.p + 1)) w c.loop-c.c nan (omega arith)) in
     going-turn a.band a.end a.row (a.row + (a.p + 1)) (add_row_product a.p a.first a.a a.x) (length-row_product a.p a.first a.a a.x) a.work.now (band-apart c.requires.0) 0 (a.a + 1) w _ c.loop-c.c c.loop-c.invariant (omega arith)
     (ap (λ (l : List Float). splice a.band a.end l w) put)
 
