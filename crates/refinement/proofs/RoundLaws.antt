@@ -1,9 +1,10 @@
 -- A round: the new knots taken in among the flat ones, and what it hands back. For callers: `refined-grows`, `refined_ascending`, `round-stuck`,
 -- `round-refined`. Assumes nothing.
-use Rattle.std.proofs.Common.{◌≡◌, ℕ, ◌+◌, ◌-◌, ◌<◌, ◌≤◌, Bool, true, false, cond, ◌||◌, eqb, leb, List, ◌++◌, length, take, sym, refl, ap, ◌∙◌, arith, length-append, length-take-le, eq-eqb, ne_eqb, le-leb, leb-false}
+use Rattle.std.proofs.Common.{◌≡◌, ℕ, ◌+◌, ◌-◌, ◌<◌, ◌≤◌, Bool, true, false, cond, ◌||◌, eqb, leb, List, ◌++◌, length, take, drop, drop-drop, sym, refl, ap, ◌∙◌, arith, length-append, length-take-le, eq-eqb, ne_eqb, le-leb, leb-false}
 use Rattle.std.specs.Prelude.{None, Some}
 use mathlib.Core.Option.{Option, none, some}
 use borrow.Author.Tests.{lt-leb, eqb-false}
+use lib.Seq.{drop-append-add}
 use lib.Ieee.{Float}
 use Rattle.places.specs.Places.{count_below}
 use Rattle.places.proofs.GatheredLaws.{count_most}
@@ -11,7 +12,7 @@ use Rattle.geometry.specs.Root.{roots_of}
 use Rattle.geometry.specs.Order.{sorted, Ascending}
 use Rattle.geometry.proofs.SortLaws.{length-sorted, ascending-sorted}
 use Rattle.refinement.specs.Refinement.{span_ends, span_worsts, splits, threshold_of, knots_at, new_knots, with_knots, refined_knots}
-use Rattle.refinement.specs.Round.{round_of}
+use Rattle.refinement.specs.Round.{round_of, headed, fresh_after}
 use Rattle.refinement.proofs.SpanLaws.{spans-most}
 use Rattle.refinement.proofs.SplitLaws.{length-knots}
 
@@ -81,6 +82,26 @@ pub round-refined : (o : Option (List Float)) (k : ℕ) → round_of o ≡ Some 
 round-refined none k e = let z : ◌≡◌ {A = ℕ} 0 1 = cc in absurd (omega arith)
 round-refined (some l) k e = (l, refl, cc)
 
+-- at most one knot for each span, and so for each parameter
+pub knots-few : (params deviations : List Float) (firsts : List ℕ) (tolerance most : Float) → length (new_knots params (span_ends firsts) (span_worsts deviations (span_ends firsts)) tolerance most) ≤ length firsts
+unfolding new_knots
+knots-few params deviations firsts tolerance most =
+    let ends = span_ends firsts in
+    let worsts = span_worsts deviations ends in
+    let threshold = threshold_of ends worsts tolerance most in
+    omega (arith, length-knots params ends worsts tolerance threshold, count_most (length ends) (splits ends worsts tolerance threshold), spans-most firsts)
+
+-- ---- what it leaves behind what it writes
+
+pub drop-headed : (n : ℕ) (xs slice : List Float) → length xs ≤ n → drop n (headed xs slice) ≡ drop n slice
+drop-headed n xs slice h =
+    let z : length xs + (n - length xs) ≡ n = omega arith in
+    rw z at (drop-append-add xs (drop (length xs) slice) (n - length xs) ∙ drop-drop (n - length xs) (length xs) slice)
+
+pub fresh-behind : (o : Option (List Float)) (n : ℕ) (new fresh : List Float) → length new ≤ n → drop n (fresh_after o new fresh) ≡ drop n fresh
+fresh-behind none n new fresh h = refl
+fresh-behind (some all) n new fresh h = drop-headed n (sorted new) fresh (omega (arith, length-sorted new))
+
 -- ---- a round by what its steps find
 
 -- the ends of the spans, their worst deviations, the threshold, and how many spans split
@@ -103,7 +124,7 @@ module _ {params squares : List Float} {firsts : List ℕ} {most tolerance : Flo
   found-length = ap length (sym found-knots) ∙ length-knots params ends worsts tolerance threshold ∙ sym f.count_is
 
   pub found-few : count ≤ length firsts
-  found-few = omega (arith, f.count_is, ap length f.ends_are, count_most (length ends) (splits ends worsts tolerance threshold), spans-most firsts)
+  found-few = omega (arith, found-length, knots-few params (roots_of squares) firsts tolerance most)
 
   module _ (degree l : ℕ) (flat : List Float) (h : l ≤ length flat) where
     flat-long : length (take l flat) ≡ l
