@@ -1,5 +1,5 @@
 -- Refinement in a job's regions: one round, that rounds which are enough for the parameters are enough, and the loop over them. Assumes nothing.
-use Rattle.std.specs.Prelude as std
+use Rattle.std.specs.Prelude as prelude
 use mathlib.Core.Path.{◌≡◌, refl, sym, ◌∙◌, ap}
 use mathlib.Core.Bool.{Bool, true, false, cond}
 use mathlib.Core.List.{List}
@@ -204,7 +204,7 @@ module _ (j : Job) (points w : List Float) (index : List ℕ) (has : HasJob j po
           rw (p, firsts_are, x.deviations y refl, most_is, q)
 
       -- a round of splitting on this fit
-      module _ (beyond : le y.largest t ≡ false) (w₂ : List Float) (ends : List ℕ) (same : length ends ≡ length firsts) (r : std.Option ℕ) (z : Splits j l y.largest t firsts w₁ w₂ r) where
+      module _ (beyond : le y.largest t ≡ false) (w₂ : List Float) (ends : List ℕ) (same : length ends ≡ length firsts) (r : prelude.Option ℕ) (z : Splits j l y.largest t firsts w₁ w₂ r) where
         round_is : refinement_round d t (going flat) ≡ going_on (next_in j r w₂)
         round_is = round_beyond d t flat f fit_there (test_is ∙ beyond) ∙ ap going_on (sym next_is ∙ z.answer)
 
@@ -216,20 +216,20 @@ module _ (j : Job) (points w : List Float) (index : List ℕ) (has : HasJob j po
             kept_then start end index index₁ (splice start end ends index₁) (index_kept (Fitting y) x)
             (kept-splice start end ends index₁ (omega arith) (omega (arith, has.firsts_in, (index_kept (Fitting y) x).long)) (same ∙ count_is ∙ omega arith))
 
-        pub turn-stuck : r ≡ std.None → Turns j points l t w w₂ index (splice start end ends index₁) Ended
+        pub turn-stuck : r ≡ prelude.None → Turns j points l t w w₂ index (splice start end ends index₁) Ended
         unfolding turned going_on next_in
         turn-stuck e = record {
-          answer = round_is ∙ ap (λ (o : std.Option ℕ). going_on (next_in j o w₂)) e;
+          answer = round_is ∙ ap (λ (o : prelude.Option ℕ). going_on (next_in j o w₂)) e;
           measures = λ m u. let v : ◌≡◌ {A = ℕ} 0 1 = cc in absurd (omega arith);
           grows = λ k u. let v : ◌≡◌ {A = ℕ} 0 1 = cc in absurd (omega arith);
           firsts = held-turn;
           kept = kept-turn;
         }
 
-        pub turn-next : (k : ℕ) → r ≡ std.Some k → Turns j points l t w w₂ index (splice start end ends index₁) (Next k)
+        pub turn-next : (k : ℕ) → r ≡ prelude.Some k → Turns j points l t w w₂ index (splice start end ends index₁) (Next k)
         unfolding turned going_on next_in flat_region
         turn-next k e = record {
-          answer = round_is ∙ ap (λ (o : std.Option ℕ). going_on (next_in j o w₂)) e;
+          answer = round_is ∙ ap (λ (o : prelude.Option ℕ). going_on (next_in j o w₂)) e;
           measures = λ m u. let v : ◌≡◌ {A = ℕ} 0 1 = cc in absurd (omega arith);
           grows = λ n u. let v : k ≡ n = cc in rw v at (z.grows k e);
           firsts = held-turn;

@@ -4,7 +4,7 @@ use mathlib.Core.List.{List, ◌++◌, append_assoc}
 use mathlib.Core.Option.{Option, none, some}
 use Prim.Native.Nat.{ℕ, ◌+◌, ◌-◌, ◌≤◌}
 use native.Mathlib.Omega.{arith}
-use Rattle.std.specs.Prelude as std
+use Rattle.std.specs.Prelude as prelude
 use lib.ListN.{length, take, drop, length-append}
 use lib.Seq.{length-take-le, take_at, drop-append-add}
 use lib.Ieee.{Float}
@@ -12,8 +12,8 @@ use Rattle.places.specs.Regions.{part}
 use Rattle.places.proofs.RegionLaws.{part-front, part-back, length_part}
 use Rattle.geometry.specs.Root.{roots_of}
 use Rattle.tables.specs.Layout.{Kept}
-use Rattle.refinement.specs.Refinement.{span_ends, span_worsts, new_knots, refined_knots}
-use Rattle.refinement.specs.Round.{round_of, flat_after, fresh_after}
+use Rattle.refinement.specs.Refinement.{refined_knots}
+use Rattle.refinement.specs.Round.{round_knots, round_of, flat_after, fresh_after}
 use Rattle.refinement.proofs.RoundLaws.{refined-grows, knots-few, fresh-behind}
 use Rattle.fitting.specs.declared.Job.{Job}
 use Rattle.fitting.specs.Splits.{HasSplits, next_knots, next_in, Splits}
@@ -60,7 +60,7 @@ module _ (j : Job) (l : ℕ) (most tolerance : Float) (firsts : List ℕ) (a b c
   refined = refined_knots params firsts (roots_of (take n c)) most tolerance j.table.degree (take l b)
 
   abbrev new : List Float
-  new = new_knots params (span_ends firsts) (span_worsts (roots_of (take n c)) (span_ends firsts)) tolerance most
+  new = round_knots params (take n c) firsts most tolerance
 
   refined_is : next_knots j l firsts most tolerance (((a ++ b) ++ c) ++ e) ≡ refined
   unfolding next_knots
@@ -72,7 +72,7 @@ module _ (j : Job) (l : ℕ) (most tolerance : Float) (firsts : List ℕ) (a b c
       )
 
   few : length new ≤ n
-  few = omega (arith, knots-few params (roots_of (take n c)) firsts tolerance most, has.placed)
+  few = omega (arith, knots-few params (take n c) firsts most tolerance, has.placed)
 
   params-long : length params ≡ n
   params-long = length_part j.params (j.params + n) a (omega (arith, has.params_in)) ∙ omega arith
@@ -80,7 +80,7 @@ module _ (j : Job) (l : ℕ) (most tolerance : Float) (firsts : List ℕ) (a b c
   flat-long : length (take l b) ≡ l
   flat-long = length-take-le l b (omega (arith, length-append a b, has.most, has.flat_in))
 
-  module _ (b' c' e' : List Float) (r : std.Option ℕ) (long_b : length b' ≡ length b) (long-c : length c' ≡ length c) (long_e : length e' ≡ length e)
+  module _ (b' c' e' : List Float) (r : prelude.Option ℕ) (long_b : length b' ≡ length b) (long-c : length c' ≡ length c) (long_e : length e' ≡ length e)
       (told : r ≡ round_of refined) (flat : b' ≡ flat_after refined b) (fresh : e' ≡ fresh_after refined new e) where
     abbrev w : List Float
     w = ((a ++ b) ++ c) ++ e
@@ -108,7 +108,7 @@ module _ (j : Job) (l : ℕ) (most tolerance : Float) (firsts : List ℕ) (a b c
     by_knots : (o : Option (List Float)) → refined ≡ o → r ≡ round_of o → b' ≡ flat_after o b → Splits j l most tolerance firsts w w' r
     unfolding next_in
     by_knots none q x y = record {
-      answer = refined_is ∙ q ∙ sym (ap (λ (z : std.Option ℕ). next_in j z w') x);
+      answer = refined_is ∙ q ∙ sym (ap (λ (z : prelude.Option ℕ). next_in j z w') x);
       grows = λ m u. let v : ◌≡◌ {A = ℕ} 0 1 = cc in absurd (omega arith);
       kept = kept;
     }
@@ -117,7 +117,7 @@ module _ (j : Job) (l : ℕ) (most tolerance : Float) (firsts : List ℕ) (a b c
         let stands : part j.flat (j.flat + length all) w' ≡ all =
         part-b a b' c' e' j.flat j.deviations j.fresh h i' k' (length all) (omega (arith, g.1, params-long, has.flat_in)) ∙ rw y (take_at all (drop (length all) b) (length all) refl) in
         record {
-          answer = refined_is ∙ q ∙ ap some (sym stands) ∙ sym (ap (λ (z : std.Option ℕ). next_in j z w') x);
+          answer = refined_is ∙ q ∙ ap some (sym stands) ∙ sym (ap (λ (z : prelude.Option ℕ). next_in j z w') x);
           grows = λ m u. let v : length all ≡ m = cc in omega (arith, g.0, g.1, flat-long, params-long);
           kept = kept;
         }

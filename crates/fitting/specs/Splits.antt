@@ -1,6 +1,6 @@
 -- The splitting of spans in a job's regions: what it asks, and what it leaves. Definitions only.
 use Rattle.std.specs.Prelude.{◌≡◌, List, ℕ, ◌+◌, ◌≤◌, ◌<◌, length, Float}
-use Rattle.std.specs.Prelude as std
+use Rattle.std.specs.Prelude as prelude
 use Rattle.std.proofs.Math.Option.{Option, none, some}
 use Rattle.places.specs.Regions.{part}
 use Rattle.geometry.specs.Root.{roots_of}
@@ -24,12 +24,12 @@ next_knots j l firsts most tolerance work =
     refined_knots (part j.params (j.params + j.table.count) work) firsts (roots_of (part j.deviations (j.deviations + j.table.count) work)) most tolerance j.table.degree (part j.flat (j.flat + l) work)
 
 -- where there are so many, they stand in the work
-unfoldable pub next_in : Job → std.Option ℕ → List Float → Option (List Float)
-next_in j std.None work = none
-next_in j (std.Some k) work = some (part j.flat (j.flat + k) work)
+unfoldable pub next_in : Job → prelude.Option ℕ → List Float → Option (List Float)
+next_in j prelude.None work = none
+next_in j (prelude.Some k) work = some (part j.flat (j.flat + k) work)
 
 -- What splitting on the l flat knots that stand there leaves: none for the next round; or more flat knots.
-pub record Splits (j : Job) (l : ℕ) (most tolerance : Float) (firsts : List ℕ) (w w' : List Float) (r : std.Option ℕ) : Type 0 where
+pub record Splits (j : Job) (l : ℕ) (most tolerance : Float) (firsts : List ℕ) (w w' : List Float) (r : prelude.Option ℕ) : Type 0 where
   pub answer : next_knots j l firsts most tolerance w ≡ next_in j r w'
-  pub grows : (k : ℕ) → r ≡ std.Some k → (l < k) × (k ≤ j.table.count + j.table.degree)
+  pub grows : (k : ℕ) → r ≡ prelude.Some k → (l < k) × (k ≤ j.table.count + j.table.degree)
   pub kept : Kept j.flat (j.fresh + j.table.count) w w'

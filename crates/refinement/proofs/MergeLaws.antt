@@ -1,7 +1,7 @@
 -- Merging two sorted lists from the back is sorting one onto the other. Assumes nothing.
-use Rattle.std.proofs.Common.{◌≡◌, ℕ, zero, suc, ◌+◌, ◌-◌, ◌<◌, ◌≤◌, Bool, true, false, cond, ltb, List, [], ◌∷◌, ◌++◌, length, take, drop, set, sym, refl, ap, ◌∙◌, subst, append_assoc, append-nil, le_refl, lt_of_lt_of_le, lt_of_le_of_lt, le_of_lt, add-one, arith, length-take-le, get_or-take, take-take, take_at, drop_at, drop-drop, take_all, take-suc, ltb-false, ltb-true, le-ltb, lt-ltb}
+use Rattle.std.proofs.Common.{◌≡◌, ℕ, zero, suc, ◌+◌, ◌-◌, ◌<◌, ◌≤◌, Bool, true, false, cond, ltb, List, [], ◌∷◌, ◌++◌, length, take, drop, set, sym, refl, ap, ◌∙◌, subst, append_assoc, le_refl, lt_of_lt_of_le, lt_of_le_of_lt, le_of_lt, add-one, arith, length-take-le, get_or-take, take-take, take_at, drop_at, drop-drop, take-suc, ltb-false, ltb-true, le-ltb, lt-ltb}
 use lib.Ieee.{Float, nan}
-use Rattle.places.proofs.GatheredLaws.{pasted, pasted-none, pasted-before, take_pasted}
+use Rattle.places.proofs.GatheredLaws.{pasted, pasted-before, take_pasted}
 use Rattle.geometry.specs.Doubles.{at}
 use Rattle.geometry.specs.Order.{rank_of, inserted, sorted_onto, sorted, NoneBelow, Ascending}
 use Rattle.geometry.proofs.SortLaws.{NoneAbove, none-above-snoc, none-above_up, inserted-last, inserted-before, ascending-last, ascending-inserted, length-sorted}
@@ -127,16 +127,6 @@ module _ (old new w : List Float) where
     pub whole : now ≡ pasted (i + j) tail w
     pub rest : sorted_onto (take i old) (take j new) ++ tail ≡ sorted_onto old new
 
-  pub merging_start : (i j : ℕ) → length old ≡ i → length new ≡ j → Merging w i j
-  merging_start i j p q = record {
-    olds = omega arith;
-    news = omega arith;
-    tail = [];
-    long = omega arith;
-    whole = pasted-none (i + j) w;
-    rest = rw (take_all i old (omega arith), take_all j new (omega arith)) (append-nil (sorted_onto old new));
-  }
-
   module _ (room : length old + length new ≤ length w) (up : Ascending old) (up' : Ascending new) (now : List Float) (i j : ℕ) (v : Merging now i (j + 1)) where
     new_is : take (j + 1) new ≡ take j new ++ (at new j ∷ [])
     new_is = rw (add-one j) (take-suc new j nan (omega (arith, v.news)))
@@ -189,9 +179,6 @@ module _ (flat : List Float) (l : ℕ) (new : List Float) (room : l + length new
 
   olds_are : length (take l flat) ≡ l
   olds_are = length-take-le l flat (omega arith)
-
-  pub merge-start : Merging (take l flat) new flat flat l (length new)
-  merge-start = merging_start old new flat l (length new) olds_are refl
 
   module _ (up : Ascending (take l flat)) (up' : Ascending new) (now : List Float) (i j : ℕ) (v : Merging (take l flat) new flat now i j) where
     -- the old ones that are left still stand there

@@ -1,7 +1,5 @@
--- A round: the new knots taken in among the flat ones, and what it hands back. For callers: `refined-grows`, `refined_ascending`, `round-stuck`,
--- `round-refined`. Assumes nothing.
+-- A round: the new knots taken in among the flat ones, what stays behind what is written, and the definitions by what the program's steps find. Assumes nothing.
 use Rattle.std.proofs.Common.{◌≡◌, ℕ, ◌+◌, ◌-◌, ◌<◌, ◌≤◌, Bool, true, false, cond, ◌||◌, eqb, leb, List, ◌++◌, length, take, drop, drop-drop, sym, refl, ap, ◌∙◌, arith, length-append, length-take-le, eq-eqb, ne_eqb, le-leb, leb-false}
-use Rattle.std.specs.Prelude.{None, Some}
 use mathlib.Core.Option.{Option, none, some}
 use borrow.Author.Tests.{lt-leb, eqb-false}
 use lib.Seq.{drop-append-add}
@@ -9,10 +7,10 @@ use lib.Ieee.{Float}
 use Rattle.places.specs.Places.{count_below}
 use Rattle.places.proofs.GatheredLaws.{count_most}
 use Rattle.geometry.specs.Root.{roots_of}
-use Rattle.geometry.specs.Order.{sorted, Ascending}
-use Rattle.geometry.proofs.SortLaws.{length-sorted, ascending-sorted}
+use Rattle.geometry.specs.Order.{sorted}
+use Rattle.geometry.proofs.SortLaws.{length-sorted}
 use Rattle.refinement.specs.Refinement.{span_ends, span_worsts, splits, threshold_of, knots_at, new_knots, with_knots, refined_knots}
-use Rattle.refinement.specs.Round.{round_of, headed, fresh_after}
+use Rattle.refinement.specs.Round.{headed, fresh_after, round_knots}
 use Rattle.refinement.proofs.SpanLaws.{spans-most}
 use Rattle.refinement.proofs.SplitLaws.{length-knots}
 
@@ -57,37 +55,19 @@ module _ (n degree : ℕ) (flat new : List Float) where
       let k : length flat - degree - 1 + length new < n = w.1.1 in
       (omega arith, omega arith)
 
-  pub with_ascending : (l : List Float) → with_knots n degree flat new ≡ some l → Ascending l
-  with_ascending l e = rw (with_is l e).0 (ascending-sorted (flat ++ new))
-
--- ---- a round makes the flat knots more, and at most those of n - 1 poles; they are sorted
-
-module _ (params : List Float) (firsts : List ℕ) (deviations : List Float) (most tolerance : Float) (degree : ℕ) (flat l : List Float)
-    (e : refined_knots params firsts deviations most tolerance degree flat ≡ some l) where
-  pub refined-grows : degree + 1 ≤ length flat → (length flat < length l) × (length l ≤ length params + degree)
-  unfolding refined_knots
-  refined-grows h = with-grows (length params) degree flat _ l h e
-
-  pub refined_ascending : Ascending l
-  unfolding refined_knots
-  refined_ascending = with_ascending (length params) degree flat _ l e
-
--- ---- what a round hands back
-
-pub round-stuck : (o : Option (List Float)) → round_of o ≡ None → o ≡ none
-round-stuck none e = refl
-round-stuck (some l) e = let z : ◌≡◌ {A = ℕ} 0 1 = cc in absurd (omega arith)
-
-pub round-refined : (o : Option (List Float)) (k : ℕ) → round_of o ≡ Some k → (l : List Float) × (o ≡ some l) × (length l ≡ k)
-round-refined none k e = let z : ◌≡◌ {A = ℕ} 0 1 = cc in absurd (omega arith)
-round-refined (some l) k e = (l, refl, cc)
+-- a round makes the flat knots more, and at most those of n - 1 poles
+pub refined-grows : (params : List Float) (firsts : List ℕ) (deviations : List Float) (most tolerance : Float) (degree : ℕ) (flat l : List Float)
+    → refined_knots params firsts deviations most tolerance degree flat ≡ some l → degree + 1 ≤ length flat
+    → (length flat < length l) × (length l ≤ length params + degree)
+unfolding refined_knots
+refined-grows params firsts deviations most tolerance degree flat l e h = with-grows (length params) degree flat _ l h e
 
 -- at most one knot for each span, and so for each parameter
-pub knots-few : (params deviations : List Float) (firsts : List ℕ) (tolerance most : Float) → length (new_knots params (span_ends firsts) (span_worsts deviations (span_ends firsts)) tolerance most) ≤ length firsts
+pub knots-few : (params squares : List Float) (firsts : List ℕ) (most tolerance : Float) → length (round_knots params squares firsts most tolerance) ≤ length firsts
 unfolding new_knots
-knots-few params deviations firsts tolerance most =
+knots-few params squares firsts most tolerance =
     let ends = span_ends firsts in
-    let worsts = span_worsts deviations ends in
+    let worsts = span_worsts (roots_of squares) ends in
     let threshold = threshold_of ends worsts tolerance most in
     omega (arith, length-knots params ends worsts tolerance threshold, count_most (length ends) (splits ends worsts tolerance threshold), spans-most firsts)
 
@@ -114,17 +94,17 @@ pub record Found (params squares : List Float) (firsts : List ℕ) (most toleran
 module _ {params squares : List Float} {firsts : List ℕ} {most tolerance : Float} {ends : List ℕ} {worsts : List Float} {threshold : Float} {count : ℕ}
     (f : Found params squares firsts most tolerance ends worsts threshold count) where
   abbrev new : List Float
-  new = new_knots params (span_ends firsts) (span_worsts (roots_of squares) (span_ends firsts)) tolerance most
+  new = round_knots params squares firsts most tolerance
 
-  pub found-knots : knots_at params ends worsts tolerance threshold ≡ new_knots params (span_ends firsts) (span_worsts (roots_of squares) (span_ends firsts)) tolerance most
+  pub found-knots : knots_at params ends worsts tolerance threshold ≡ round_knots params squares firsts most tolerance
   unfolding new_knots
   found-knots = rw (f.threshold_is, f.ends_are, f.worsts_are)
 
-  pub found-length : length (new_knots params (span_ends firsts) (span_worsts (roots_of squares) (span_ends firsts)) tolerance most) ≡ count
+  pub found-length : length (round_knots params squares firsts most tolerance) ≡ count
   found-length = ap length (sym found-knots) ∙ length-knots params ends worsts tolerance threshold ∙ sym f.count_is
 
   pub found-few : count ≤ length firsts
-  found-few = omega (arith, found-length, knots-few params (roots_of squares) firsts tolerance most)
+  found-few = omega (arith, found-length, knots-few params squares firsts most tolerance)
 
   module _ (degree l : ℕ) (flat : List Float) (h : l ≤ length flat) where
     flat-long : length (take l flat) ≡ l
@@ -140,9 +120,9 @@ module _ {params squares : List Float} {firsts : List ℕ} {most tolerance : Flo
 
     pub refined-some : (count ≡ 0 → ⊥) → l - degree - 1 + count < length params
         → refined_knots params firsts (roots_of squares) most tolerance degree (take l flat)
-        ≡ some (sorted (take l flat ++ new_knots params (span_ends firsts) (span_worsts (roots_of squares) (span_ends firsts)) tolerance most))
+        ≡ some (sorted (take l flat ++ round_knots params squares firsts most tolerance))
     unfolding refined_knots
     refined-some z k = with-some (length params) degree (take l flat) new (λ y. z (sym found-length ∙ y)) (rw (flat-long, found-length) k)
 
-    pub all-long : length (sorted (take l flat ++ new_knots params (span_ends firsts) (span_worsts (roots_of squares) (span_ends firsts)) tolerance most)) ≡ l + count
+    pub all-long : length (sorted (take l flat ++ round_knots params squares firsts most tolerance)) ≡ l + count
     all-long = length-sorted (take l flat ++ new) ∙ length-append (take l flat) new ∙ omega (arith, flat-long, found-length)

@@ -1,6 +1,6 @@
 -- The spans that hold parameters: their ends rise and are at most the number of parameters, and the loops that find them and their worst deviations.
 -- Assumes nothing.
-use Rattle.std.proofs.Common.{cond, ◌-◌, ne_eqb, ◌≡◌, ℕ, zero, suc, ◌+◌, ◌<◌, ◌≤◌, Bool, true, false, eqb, List, [], ◌∷◌, ◌++◌, length, get_or, take, drop, set, sym, refl, ◌∙◌, subst, ⊎_elim, eq-or-lt_of_le, add-one, arith, length-append, take_at}
+use Rattle.std.proofs.Common.{◌≡◌, ℕ, zero, suc, ◌+◌, ◌-◌, ◌<◌, ◌≤◌, Bool, true, false, cond, eqb, List, [], ◌∷◌, ◌++◌, length, get_or, take, drop, set, sym, refl, ◌∙◌, subst, ⊎_elim, eq-or-lt_of_le, add-one, arith, length-append, take_at, ne_eqb}
 use lib.ListN.{get_or-append}
 use lib.Seq.{get_or_at}
 use lib.Ieee.{Float}
@@ -16,6 +16,7 @@ unfolding closes
 closes-front xs firsts k h l =
     rw (length-front_is xs firsts (omega arith), front-after xs firsts k 0 h, front-after xs firsts (k + 1) 0 (omega arith))
 
+-- as the program tests it
 pub start_is : (ends : List ℕ) (s : ℕ) → start_of ends s ≡ cond (eqb s 0) 0 (get_or ends (s - 1) 0)
 unfolding start_of
 start_is ends zero = refl

@@ -10,6 +10,7 @@ use Rattle.places.proofs.GatheredLaws.{front, gathered_yes, gathered_no, length-
 use Rattle.geometry.specs.Doubles.{at}
 use Rattle.refinement.specs.Refinement.{start_of, end_of, lone, misses, lone_misses, lone_before, splits, middle_knot, knots_at}
 
+-- as the program tests it
 pub before_is : (ends : List ℕ) (worsts : List Float) (tolerance threshold : Float) (s : ℕ)
     → lone_before ends worsts tolerance threshold s ≡ cond (eqb s 0) false (lone_misses ends worsts tolerance threshold (s - 1))
 unfolding lone_before

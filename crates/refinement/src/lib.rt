@@ -1,10 +1,10 @@
 // One round of the refinement of knots (`fit_with_refined_knots`): the spans that miss the tolerance split between their middle parameters.
 #![tactic(auto)]
 
-ghost use Rattle.std.specs.Prelude.{◌≡◌, ◌+◌, ◌<◌, ◌≤◌, ◌++◌, length, take, drop};
+ghost use Rattle.std.specs.Prelude.{◌≡◌, ◌+◌, ◌<◌, ◌≤◌, length, take};
 ghost use Rattle.geometry.specs.Root.{roots_of};
-ghost use Rattle.refinement.specs.Refinement.{span_ends, span_worsts, knots_at, new_knots, with_knots, refined_knots};
-ghost use Rattle.refinement.specs.Round.{round_of, headed, flat_after, fresh_after};
+ghost use Rattle.refinement.specs.Refinement.{span_ends, span_worsts, refined_knots};
+ghost use Rattle.refinement.specs.Round.{round_knots, round_of, headed, flat_after, fresh_after};
 
 pub mod merge;
 pub mod spans;
@@ -34,7 +34,7 @@ pub fn refine(
     requires fresh_room { length params.now ≤ length fresh.old }
     ensures value { result ≡ round_of (refined_knots params.now firsts.old (roots_of squares.old) most tolerance degree (take l flat.old)) }
     ensures flat_after { flat.new ≡ flat_after (refined_knots params.now firsts.old (roots_of squares.old) most tolerance degree (take l flat.old)) flat.old }
-    ensures fresh_after { fresh.new ≡ fresh_after (refined_knots params.now firsts.old (roots_of squares.old) most tolerance degree (take l flat.old)) (new_knots params.now (span_ends firsts.old) (span_worsts (roots_of squares.old) (span_ends firsts.old)) tolerance most) fresh.old }
+    ensures fresh_after { fresh.new ≡ fresh_after (refined_knots params.now firsts.old (roots_of squares.old) most tolerance degree (take l flat.old)) (round_knots params.now squares.old firsts.old most tolerance) fresh.old }
     ensures squares_after { squares.new ≡ headed (span_worsts (roots_of squares.old) (span_ends firsts.old)) squares.old }
     ensures firsts_after { firsts.new ≡ headed (span_ends firsts.old) firsts.old }
 {

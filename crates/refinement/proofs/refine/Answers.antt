@@ -6,7 +6,8 @@ use mathlib.Core.Option.{none}
 use Rattle.geometry.specs.Order.{sorted}
 use Rattle.geometry.specs.Root.{roots_of}
 use Rattle.geometry.proofs.SortLaws.{length-sorted}
-use Rattle.refinement.specs.Refinement.{span_ends, span_worsts, new_knots, refined_knots}
+use Rattle.refinement.specs.Refinement.{span_ends, span_worsts, refined_knots}
+use Rattle.refinement.specs.Round.{round_knots}
 use Rattle.refinement.proofs.SpanLaws.{spans, ends-front, length-worsts}
 use Rattle.refinement.proofs.RoundLaws.{Found, found-knots, found-length, found-few, refined_empty, refined-full, refined-some, all-long}
 use Rattle.refinement.proofs.refine.Goals as goal
@@ -63,7 +64,7 @@ returns c =
     let flat = c.requires.flat_there in
     let some_new = refined-some f a.degree a.l a.flat.now flat c.if-inserted-eq0.false c.if-params-l.false in
     let laid = c.lay_knots.ensures ∙ found-knots f in
-    let new = new_knots a.params.now (span_ends a.firsts.now) (span_worsts (roots_of a.squares.now) (span_ends a.firsts.now)) a.tolerance a.most in
+    let new = round_knots a.params.now a.squares.now a.firsts.now a.most a.tolerance in
     let count : length new ≡ c.count-inserted.result = found-length f in
     let long : length (sorted (take a.l a.flat.now ++ new)) ≡ a.l + c.count-inserted.result = all-long f a.degree a.l a.flat.now flat in
     rw some_new
