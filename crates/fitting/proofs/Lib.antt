@@ -4,5 +4,6 @@ pub mod RefinedLaws
 pub mod ToleranceLaws
 pub mod AttemptLaws
 pub mod MeasureLaws
+pub mod SplittingLaws
 pub mod RoundsLaws
 pub mod CountLaws

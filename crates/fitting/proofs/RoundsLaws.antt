@@ -1,20 +1,18 @@
 -- Refinement in a job's regions: one round, that rounds which are enough for the parameters are enough, and the loop over them. Assumes nothing.
-use mathlib.Core.Path.{◌≡◌, refl, sym, ◌∙◌, ap, subst}
+use Rattle.std.specs.Prelude as prelude
+use mathlib.Core.Path.{◌≡◌, refl, sym, ◌∙◌, ap}
 use mathlib.Core.Bool.{Bool, true, false, cond}
-use mathlib.Core.List.{List, ◌++◌}
-use mathlib.Core.Logic.{inl, inr}
+use mathlib.Core.List.{List}
 use mathlib.Core.Option.{Option, none, some}
 use Prim.Native.Nat.{ℕ, zero, suc, ◌+◌, ◌-◌, ◌*◌, ◌≤◌, ◌<◌}
 use native.Mathlib.Omega.{arith}
-use lib.ListN.{length, drop, length-drop, length-append}
-use lib.Seq.{take_all}
+use lib.ListN.{length}
 use lib.Ieee.{Float, le}
 use Rattle.places.specs.Regions.{part, splice}
 use Rattle.places.proofs.RegionLaws.{length_part, part-splice}
 use Rattle.geometry.specs.Doubles.{largest}
 use Rattle.knots.specs.Knots.{bezier_knots}
 use Rattle.knots.proofs.KnotLaws.{length_bezier}
-use Rattle.geometry.specs.Root.{roots_of}
 use Rattle.tables.specs.declared.Measured.{Measured}
 use Rattle.tables.specs.Deviations.{largest_within}
 use Rattle.tables.specs.Directions.{Direction}
@@ -22,13 +20,8 @@ use Rattle.tables.specs.Layout.{Kept}
 use Rattle.tables.specs.Measures.{measured}
 use Rattle.tables.proofs.KeptLaws.{kept_same, kept-splice, kept_wider, kept_then, kept-part}
 use Rattle.tables.proofs.TableLaws.{length-firsts}
-use Rattle.refinement.specs.declared.Round.{Round}
-use Rattle.refinement.specs.declared.Round.TheVariants as round
-use Rattle.refinement.specs.Refinement.{span_ends, refined_knots}
-use Rattle.refinement.specs.Round.{RoundRegions, round_of, work_after}
-use Rattle.refinement.proofs.SpanLaws.{spans-most}
-use Rattle.refinement.proofs.RoundLaws.{refined-grows, round-stuck}
-use Rattle.refinement.proofs.AfterLaws.{Refines, refines, after-length, after-take, after-part}
+use Rattle.refinement.specs.Refinement.{refined_knots}
+use Rattle.refinement.proofs.RoundLaws.{refined-grows}
 use Rattle.fitting.specs.declared.Job.{Job}
 use Rattle.fitting.specs.declared.Attempt.{Attempt}
 use Rattle.fitting.specs.declared.Attempt.TheVariants.{Unfitted, Fitting}
@@ -38,6 +31,7 @@ use Rattle.fitting.specs.declared.Reached.{Reached}
 use Rattle.fitting.specs.declared.Reached.TheVariants.{Missed, Met}
 use Rattle.fitting.specs.Within.{Candidate, table_on, fit_on, Refining, going, fitted, stuck, going_on, judged, refinement_round, refinement_rounds, fit_in, fit_with_refined_knots}
 use Rattle.fitting.specs.Jobs.{direction_of, flat_region, candidate_in, attempted, turned, refined_in, HasJob, HasKnots, Attempts, Turns, RefinesWithin}
+use Rattle.fitting.specs.Splits.{HasSplits, next_knots, next_in, Splits}
 use Rattle.fitting.proofs.AttemptLaws.{fills, params-long, has_job-kept, direction-kept, kept-knots, has_job_put, direction_put, flat_put, missed, met, reaches_later}
 
 -- ---- the rounds of a direction
@@ -117,10 +111,6 @@ module _ (d : Direction) (t : Float) where
 
 -- ---- one round in the job's regions
 
--- what follows a region is the rest
-part-rest : (e n : ℕ) (l : List Float) → length l ≡ n → part e n l ≡ drop e l
-part-rest e n l h = take_all (n - e) (drop e l) (omega (arith, length-drop e l))
-
 module _ (j : Job) (points w : List Float) (index : List ℕ) (has : HasJob j points w index) (l : ℕ) (knots : HasKnots j l) (t : Float) where
   abbrev d : Direction
   d = direction_of j points w index
@@ -193,105 +183,58 @@ module _ (j : Job) (points w : List Float) (index : List ℕ) (has : HasJob j po
       count_is : length firsts ≡ j.table.count
       count_is = ap length firsts_are ∙ firsts-long ∙ omega arith
 
-      regions : RoundRegions j.table.count j.params j.deviations j.flat j.fresh l j.table.degree (length w₁)
-      regions = record {
-        parameters = inl (omega (arith, has.params_in, has.flat_in, has.values_in, has.band_in, has.poles_inside, has.curve_inside));
-        knots = inl has.params_in;
-        deviations = inr (omega (arith, has.flat_in, has.values_in, has.band_in, has.poles_inside, has.curve_inside));
-        parameters_end = omega (arith, has.params_in, has.flat_in, has.values_in, has.band_in, has.poles_inside, has.curve_inside, has.deviations_in);
-        deviations_end = has.deviations_in;
-        knots_end = omega (arith, has.flat_in, has.values_in, has.band_in, has.poles_inside, has.curve_inside, has.deviations_in);
-        new = omega (arith, has.fresh_in, x.kept.long);
+      pub turn-regions : HasSplits j l (length firsts) (length w₁)
+      turn-regions = record {
+        placed = count_is;
+        params_in = has.params_in;
+        flat_in = omega (arith, has.flat_in, has.values_in, has.band_in, has.poles_inside, has.curve_inside);
+        deviations_in = has.deviations_in;
+        fresh_in = omega (arith, has.fresh_in, x.kept.long);
         least = omega (arith, knots.least);
         most = knots.most;
       }
 
-      pub turn-regions : RoundRegions (length firsts) j.params j.deviations j.flat j.fresh l j.table.degree (length w₁)
-      turn-regions = subst (λ (n : ℕ). RoundRegions n j.params j.deviations j.flat j.fresh l j.table.degree (length w₁)) (sym count_is) regions
-
-      abbrev splitting : ℕ → Option (List Float)
-      splitting n = refined_knots (part j.params (j.params + n) w₁) firsts (roots_of (part j.deviations (j.deviations + n) w₁)) y.largest t j.table.degree (part j.flat (j.flat + l) w₁)
-
-      splitting_is : splitting j.table.count ≡ refined_knots d.params (table_on d flat).firsts (d.deviations f.distances) (largest f.distances) t d.degree flat
-      unfolding direction_of flat_region
-      splitting_is =
+      next_is : next_knots j l firsts y.largest t w₁ ≡ refined_knots d.params (table_on d flat).firsts (d.deviations f.distances) (largest f.distances) t d.degree flat
+      unfolding next_knots direction_of flat_region
+      next_is =
           let p : part j.params (j.params + j.table.count) w₁ ≡ d.params =
           kept-part j.table.values (j.deviations + j.table.count) w w₁ x.kept j.params (j.params + j.table.count) (omega arith) (omega (arith, has.params_in, has.flat_in)) in
           let q : part j.flat (j.flat + l) w₁ ≡ flat =
           kept-part j.table.values (j.deviations + j.table.count) w w₁ x.kept j.flat (j.flat + l) (omega arith) (omega (arith, knots.most, has.flat_in)) in
-          ap (λ (v : List Float). refined_knots v firsts (roots_of (part j.deviations (j.deviations + j.table.count) w₁)) y.largest t j.table.degree (part j.flat (j.flat + l) w₁)) p
-          ∙ ap (λ (v : List ℕ). refined_knots d.params v (roots_of (part j.deviations (j.deviations + j.table.count) w₁)) y.largest t j.table.degree (part j.flat (j.flat + l) w₁)) firsts_are
-          ∙ ap (λ (v : List Float). refined_knots d.params (table_on d flat).firsts v y.largest t j.table.degree (part j.flat (j.flat + l) w₁)) (x.deviations y refl)
-          ∙ ap (λ (v : Float). refined_knots d.params (table_on d flat).firsts (d.deviations f.distances) v t j.table.degree (part j.flat (j.flat + l) w₁)) most_is
-          ∙ ap (refined_knots d.params (table_on d flat).firsts (d.deviations f.distances) (largest f.distances) t j.table.degree) q
+          rw (p, firsts_are, x.deviations y refl, most_is, q)
 
       -- a round of splitting on this fit
-      module _ (beyond : le y.largest t ≡ false) (w₂ : List Float) (ends : List ℕ) (put : ends ≡ span_ends firsts ++ drop (length (span_ends firsts)) firsts) (r : Round)
-          (told : r ≡ round_of (splitting (length firsts)))
-          (after : w₂ ≡ work_after (length firsts) j.params j.deviations j.flat j.fresh l j.table.degree t y.largest (span_ends firsts) w₁) where
-        round_is : refinement_round d t (going flat) ≡ going_on (splitting j.table.count)
-        round_is = round_beyond d t flat f fit_there (test_is ∙ beyond) ∙ ap going_on (sym splitting_is)
-
-        told' : r ≡ round_of (splitting j.table.count)
-        told' = told ∙ ap (λ (n : ℕ). round_of (splitting n)) count_is
-
-        after' : w₂ ≡ work_after j.table.count j.params j.deviations j.flat j.fresh l j.table.degree t y.largest (span_ends firsts) w₁
-        after' = after ∙ ap (λ (n : ℕ). work_after n j.params j.deviations j.flat j.fresh l j.table.degree t y.largest (span_ends firsts) w₁) count_is
-
-        spans-few : length (span_ends firsts) ≤ j.table.count
-        spans-few = omega (arith, spans-most firsts, count_is)
-
-        kept_refine : Kept j.flat last w₁ w₂
-        kept_refine =
-            let same : length w₂ ≡ length w₁ =
-            after-length j.table.count j.params j.deviations j.flat j.fresh l j.table.degree (span_ends firsts) t y.largest w₁ w₂ regions spans-few after' in
-            record {
-              long = same;
-              front =
-                  after-take j.table.count j.params j.deviations j.flat j.fresh l j.table.degree (span_ends firsts) t y.largest w₁ w₂ regions spans-few after' j.flat
-                  (omega (arith, has.flat_in, has.values_in, has.band_in, has.poles_inside, has.curve_inside)) (omega arith) (omega (arith, regions.knots_end));
-              back =
-                  sym (part-rest last (length w₁) w₂ same)
-                  ∙ after-part j.table.count j.params j.deviations j.flat j.fresh l j.table.degree (span_ends firsts) t y.largest w₁ w₂ regions spans-few after' last (length w₁)
-                  regions.new (inr (omega (arith, regions.deviations_end))) (inr (omega (arith, regions.knots_end))) (inr (omega arith))
-                  ∙ part-rest last (length w₁) w₁ refl;
-            }
+      module _ (beyond : le y.largest t ≡ false) (w₂ : List Float) (ends : List ℕ) (same : length ends ≡ length firsts) (r : prelude.Option ℕ) (z : Splits j l y.largest t firsts w₁ w₂ r) where
+        round_is : refinement_round d t (going flat) ≡ going_on (next_in j r w₂)
+        round_is = round_beyond d t flat f fit_there (test_is ∙ beyond) ∙ ap going_on (sym next_is ∙ z.answer)
 
         kept-turn : Kept j.flat last w w₂
-        kept-turn = kept_then j.flat last w w₁ w₂ (kept_attempt w₁ x.kept) kept_refine
-
-        ends-long : length ends ≡ end - start
-        ends-long =
-            ap length put
-            ∙ omega (arith, length-append (span_ends firsts) (drop (length (span_ends firsts)) firsts), length-drop (length (span_ends firsts)) firsts, spans-most firsts, count_is)
+        kept-turn = kept_then j.flat last w w₁ w₂ (kept_attempt w₁ x.kept) z.kept
 
         held-turn : Kept start end index (splice start end ends index₁)
         held-turn =
             kept_then start end index index₁ (splice start end ends index₁) (index_kept (Fitting y) x)
-            (kept-splice start end ends index₁ (omega arith) (omega (arith, has.firsts_in, (index_kept (Fitting y) x).long)) ends-long)
+            (kept-splice start end ends index₁ (omega arith) (omega (arith, has.firsts_in, (index_kept (Fitting y) x).long)) (same ∙ count_is ∙ omega arith))
 
-        pub turn-stuck : r ≡ round.Stuck → Turns j points l t w w₂ index (splice start end ends index₁) Ended
-        unfolding turned going_on
+        pub turn-stuck : r ≡ prelude.None → Turns j points l t w w₂ index (splice start end ends index₁) Ended
+        unfolding turned going_on next_in
         turn-stuck e = record {
-          answer = round_is ∙ ap going_on (round-stuck (splitting j.table.count) (sym told' ∙ e));
-          measures = λ m z. let u : ◌≡◌ {A = ℕ} 0 1 = cc in absurd (omega arith);
-          grows = λ k z. let u : ◌≡◌ {A = ℕ} 0 1 = cc in absurd (omega arith);
+          answer = round_is ∙ ap (λ (o : prelude.Option ℕ). going_on (next_in j o w₂)) e;
+          measures = λ m u. let v : ◌≡◌ {A = ℕ} 0 1 = cc in absurd (omega arith);
+          grows = λ k u. let v : ◌≡◌ {A = ℕ} 0 1 = cc in absurd (omega arith);
           firsts = held-turn;
           kept = kept-turn;
         }
 
-        pub turn-next : (k : ℕ) → r ≡ round.Refined k → Turns j points l t w w₂ index (splice start end ends index₁) (Next k)
-        unfolding turned going_on flat_region
-        turn-next k e =
-            let got : Refines j.table.count j.params j.deviations j.flat j.fresh l j.table.degree k firsts t y.largest w₁ w₂ =
-            refines j.table.count j.params j.deviations j.flat j.fresh l j.table.degree k firsts t y.largest w₁ w₂ r (sym count_is) regions told' after' e in
-            record {
-              answer = round_is ∙ ap going_on got.knots ∙ ap going (sym got.stands);
-              measures = λ m z. let u : ◌≡◌ {A = ℕ} 0 1 = cc in absurd (omega arith);
-              grows = λ n z. let u : k ≡ n = cc in (omega (arith, got.grows), omega (arith, got.few));
-              firsts = held-turn;
-              kept = kept-turn;
-            }
+        pub turn-next : (k : ℕ) → r ≡ prelude.Some k → Turns j points l t w w₂ index (splice start end ends index₁) (Next k)
+        unfolding turned going_on next_in flat_region
+        turn-next k e = record {
+          answer = round_is ∙ ap (λ (o : prelude.Option ℕ). going_on (next_in j o w₂)) e;
+          measures = λ m u. let v : ◌≡◌ {A = ℕ} 0 1 = cc in absurd (omega arith);
+          grows = λ n u. let v : k ≡ n = cc in rw v at (z.grows k e);
+          firsts = held-turn;
+          kept = kept-turn;
+        }
 
 -- ---- the loop
 

@@ -3,3 +3,4 @@ pub mod Within
 pub mod Marks
 pub mod Tolerance
 pub mod Jobs
+pub mod Splits

@@ -1,8 +1,39 @@
 // Refinement (`fit_with_refined_knots`): rounds of least squares and splitting, in the job's regions of the lent slices.
+ghost use Rattle.std.specs.Prelude.{length};
 ghost use Rattle.fitting.specs.Jobs.{HasJob, HasKnots, Turns, RefinesWithin};
+ghost use Rattle.fitting.specs.Splits.{HasSplits, Splits};
 
 use crate::{Attempt, Job, Reached, Turn, attempts};
-use refinement::Round;
+
+// A round of splitting on the l flat knots that stand in the work, by the squares of the deviations that stand there: how many flat knots there are then.
+fn split_spans(
+    work: &mut [f64],
+    firsts: &mut [usize],
+    job: Job,
+    l: usize,
+    tolerance: f64,
+    most: f64,
+) -> Option<usize>
+    requires { HasSplits job l (length firsts.old) (length work.old) }
+    ensures { Splits job l most tolerance firsts.old work.old work.new result }
+{
+    let n = job.table.count;
+    let params_end = job.params + n;
+    let (front, fresh) = work.split_at_mut(job.fresh);
+    let (front, squares) = front.split_at_mut(job.deviations);
+    let (params, flat) = front.split_at_mut(job.flat);
+    refinement::refine(
+        &params[job.params..params_end],
+        &mut squares[..n],
+        firsts,
+        flat,
+        l,
+        fresh,
+        job.table.degree,
+        tolerance,
+        most,
+    )
+}
 
 // One round on the l flat knots that stand in the work.
 fn turn(
@@ -25,20 +56,9 @@ fn turn(
             let table = job.table;
             let start = table.firsts;
             let end = start + table.count;
-            match refinement::refine(
-                work,
-                &mut index[start..end],
-                job.params,
-                job.deviations,
-                job.flat,
-                job.fresh,
-                l,
-                table.degree,
-                tolerance,
-                m.largest,
-            ) {
-                Round::Stuck => Turn::Ended,
-                Round::Refined(k) => Turn::Next(k),
+            match split_spans(work, &mut index[start..end], job, l, tolerance, m.largest) {
+                None => Turn::Ended,
+                Some(k) => Turn::Next(k),
             }
         }
     }

@@ -3,5 +3,4 @@ pub mod SpanLaws
 pub mod MergeLaws
 pub mod SplitLaws
 pub mod RoundLaws
-pub mod AfterLaws
 pub mod Examples

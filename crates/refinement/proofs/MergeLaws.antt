@@ -1,12 +1,10 @@
 -- Merging two sorted lists from the back is sorting one onto the other. Assumes nothing.
-use Rattle.std.proofs.Common.{◌≡◌, ℕ, zero, suc, ◌+◌, ◌-◌, ◌<◌, ◌≤◌, Bool, true, false, cond, ltb, List, [], ◌∷◌, ◌++◌, length, take, set, sym, refl, ap, ◌∙◌, subst, append_assoc, append-nil, le_refl, lt_of_lt_of_le, lt_of_le_of_lt, le_of_lt, add-one, arith, length-append, take_all, take-suc, ltb-false, ltb-true, le-ltb, lt-ltb}
+use Rattle.std.proofs.Common.{◌≡◌, ℕ, zero, suc, ◌+◌, ◌-◌, ◌<◌, ◌≤◌, Bool, true, false, cond, ltb, List, [], ◌∷◌, ◌++◌, length, take, drop, set, sym, refl, ap, ◌∙◌, subst, append_assoc, le_refl, lt_of_lt_of_le, lt_of_le_of_lt, le_of_lt, add-one, arith, length-take-le, get_or-take, take-take, take_at, drop_at, drop-drop, take-suc, ltb-false, ltb-true, le-ltb, lt-ltb}
 use lib.Ieee.{Float, nan}
-use Rattle.places.specs.Regions.{part, splice}
-use Rattle.places.proofs.RegionLaws.{get_d_part, length_part}
-use Rattle.places.proofs.GatheredLaws.{pasted, pasted-none, pasted-before, length_pasted, part_pasted-after, get_or_pasted-before, get_or_pasted-after, pasted_join, pasted_over, splice_is, part_pasted, part_pasted_self}
+use Rattle.places.proofs.GatheredLaws.{pasted, pasted-before, take_pasted}
 use Rattle.geometry.specs.Doubles.{at}
 use Rattle.geometry.specs.Order.{rank_of, inserted, sorted_onto, sorted, NoneBelow, Ascending}
-use Rattle.geometry.proofs.SortLaws.{NoneAbove, none-above-snoc, none-above_up, inserted-last, inserted-before, ascending-last, ascending-inserted, length-sorted, length_onto}
+use Rattle.geometry.proofs.SortLaws.{NoneAbove, none-above-snoc, none-above_up, inserted-last, inserted-before, ascending-last, ascending-inserted, length-sorted}
 
 -- every value ranks below w
 abbrev pub AllBelow : Float → List Float → Type 0
@@ -119,34 +117,22 @@ none-above-take k xs v h a l =
     let b : Ascending (take k xs ++ (at xs k ∷ [])) = subst Ascending (take-suc xs k nan h) (ascending-take (suc k) xs a) in
     rw e (none-above-snoc v (at xs k) (take k xs) (none-above_up (at xs k) v (take k xs) l (ascending-last (at xs k) (take k xs) b).0) l)
 
-module _ (old new w : List Float) (f g : ℕ) where
+-- i of the old ones, the first in w, and j of the new ones are left, and `tail` stands behind where they go
+module _ (old new w : List Float) where
   pub record Merging (now : List Float) (i j : ℕ) : Type 0 where
     pub olds : i ≤ length old
     pub news : j ≤ length new
     pub tail : List Float
     pub long : i + j + length tail ≡ length old + length new
-    pub whole : now ≡ pasted (f + (i + j)) tail w
+    pub whole : now ≡ pasted (i + j) tail w
     pub rest : sorted_onto (take i old) (take j new) ++ tail ≡ sorted_onto old new
 
-  pub merging_start : (i j : ℕ) → length old ≡ i → length new ≡ j → Merging w i j
-  merging_start i j p q = record {
-    olds = omega arith;
-    news = omega arith;
-    tail = [];
-    long = omega arith;
-    whole = pasted-none (f + (i + j)) w;
-    rest = rw (take_all i old (omega arith), take_all j new (omega arith)) (append-nil (sorted_onto old new));
-  }
-
-  module _ (room : f + (length old + length new) ≤ length w) (up : Ascending old) (up' : Ascending new) (now : List Float) (i j : ℕ) (v : Merging now (i) (j + 1)) where
-    set_is : (x : Float) (k : ℕ) → k ≡ f + (i + j) → set now k x ≡ pasted (f + (i + j)) (x ∷ v.tail) w
-    set_is x k e = rw (v.whole, e) (pasted-before (f + (i + j)) (f + (i + (j + 1))) v.tail w x nan (omega arith) (omega (arith, v.long, v.olds)))
-
+  module _ (room : length old + length new ≤ length w) (up : Ascending old) (up' : Ascending new) (now : List Float) (i j : ℕ) (v : Merging now i (j + 1)) where
     new_is : take (j + 1) new ≡ take j new ++ (at new j ∷ [])
     new_is = rw (add-one j) (take-suc new j nan (omega (arith, v.news)))
 
     -- the last of the new ones
-    pub merging-new : (k : ℕ) → k ≡ f + (i + j) → NoneAbove (at new j) (take i old) → Merging (set now k (at new j)) i j
+    pub merging-new : (k : ℕ) → k ≡ i + j → NoneAbove (at new j) (take i old) → Merging (set now k (at new j)) i j
     merging-new k e a =
         let b : NoneAbove (at new j) (take j new) = (ascending-last (at new j) (take j new) (subst Ascending new_is (ascending-take (j + 1) new up'))).0 in
         record {
@@ -154,18 +140,18 @@ module _ (old new w : List Float) (f g : ℕ) where
           news = omega (arith, v.news);
           tail = at new j ∷ v.tail;
           long = omega (arith, v.long);
-          whole = set_is (at new j) k e;
+          whole = rw (v.whole, e) (pasted-before (i + j) (i + (j + 1)) v.tail w (at new j) nan (omega arith) (omega (arith, v.long, v.olds)));
           rest = sym (append_assoc (sorted_onto (take i old) (take j new)) (at new j ∷ []) v.tail)
               ∙ ap (λ (z : List Float). z ++ v.tail) (sym (onto-new (at new j) (take i old) (take j new) a b))
               ∙ rw new_is at v.rest;
         }
 
-  module _ (room : f + (length old + length new) ≤ length w) (up : Ascending old) (up' : Ascending new) (now : List Float) (i j : ℕ) (v : Merging now (i + 1) (j + 1)) where
+  module _ (room : length old + length new ≤ length w) (up : Ascending old) (up' : Ascending new) (now : List Float) (i j : ℕ) (v : Merging now (i + 1) (j + 1)) where
     old_is : take (i + 1) old ≡ take i old ++ (at old i ∷ [])
     old_is = rw (add-one i) (take-suc old i nan (omega (arith, v.olds)))
 
     -- the last of the old ones
-    pub merging_old : (k : ℕ) → k ≡ f + (i + (j + 1)) → rank_of (at new j) < rank_of (at old i) → Merging (set now k (at old i)) i (j + 1)
+    pub merging_old : (k : ℕ) → k ≡ i + (j + 1) → rank_of (at new j) < rank_of (at old i) → Merging (set now k (at old i)) i (j + 1)
     merging_old k e h =
         let b : AllBelow (at old i) (take (j + 1) new) = all-below (at new j) (at old i) (take (j + 1) new) h (none-above-take j new (at new j) (omega (arith, v.news)) up' (le_refl _)) in
         record {
@@ -173,20 +159,11 @@ module _ (old new w : List Float) (f g : ℕ) where
           news = v.news;
           tail = at old i ∷ v.tail;
           long = omega (arith, v.long);
-          whole = rw (v.whole, e) (pasted-before (f + (i + (j + 1))) (f + (i + 1 + (j + 1))) v.tail w (at old i) nan (omega arith) (omega (arith, v.long, v.olds)));
+          whole = rw (v.whole, e) (pasted-before (i + (j + 1)) (i + 1 + (j + 1)) v.tail w (at old i) nan (omega arith) (omega (arith, v.long, v.olds)));
           rest = sym (append_assoc (sorted_onto (take i old) (take (j + 1) new)) (at old i ∷ []) v.tail)
               ∙ ap (λ (z : List Float). z ++ v.tail) (sym (onto_old (at old i) (take i old) (take (j + 1) new) b))
               ∙ rw old_is at v.rest;
         }
-
-  pub merging_end : (l m : ℕ) (now : List Float) (i j : ℕ) → j ≡ 0 → old ≡ part f (f + l) w → length old + length new ≡ l + m → i ≤ l → f + l ≤ length w → Merging now i j
-      → now ≡ splice f (f + (l + m)) (sorted_onto old new) w
-  unfolding sorted_onto
-  merging_end l m now i j z o c h k v =
-      let y : f + (i + j) ≡ f + i = omega arith in
-      let r : take i old ++ v.tail ≡ sorted_onto old new = rw z at v.rest in
-      v.whole ∙ ap (λ (a : ℕ). pasted a v.tail w) y ∙ pasted_join f i l v.tail w h k ∙ ap (λ (xs : List Float). pasted f xs w) (subst (λ (z : List Float). take i z ++ v.tail ≡ sorted_onto old new) o r)
-      ∙ sym (splice_is f (f + (l + m)) (sorted_onto old new) w (omega arith) (omega (arith, length_onto old new)))
 
 none-above-first : (i : ℕ) (xs : List Float) (x : Float) → i ≤ length xs → Ascending xs → (0 < i → rank_of (at xs (i - 1)) ≤ rank_of x) → NoneAbove x (take i xs)
 none-above-first zero xs x h a l = tt
@@ -195,106 +172,72 @@ none-above-first (suc k) xs x h a l =
     let q : rank_of (at xs k) ≤ rank_of x = rw z at (l (omega arith)) in
     rw add-one at (none-above-take k xs x (omega arith) a q)
 
--- a turn, in the code's own places
-module _ (w : List Float) (f l g m : ℕ) (a : f + l + m ≤ g) (b : g + m ≤ length w) where
+-- a turn, in the code's own places: the first l of `flat` are the old ones
+module _ (flat : List Float) (l : ℕ) (new : List Float) (room : l + length new ≤ length flat) where
   abbrev old : List Float
-  old = part f (f + l) w
+  old = take l flat
 
-  abbrev new : List Float
-  new = part g (g + m) w
+  olds_are : length (take l flat) ≡ l
+  olds_are = length-take-le l flat (omega arith)
 
-  pub olds_are : length (part f (f + l) w) ≡ l
-  olds_are = length_part f (f + l) w (omega arith) ∙ omega arith
+  module _ (up : Ascending (take l flat)) (up' : Ascending new) (now : List Float) (i j : ℕ) (v : Merging (take l flat) new flat now i j) where
+    -- the old ones that are left still stand there
+    left_is : take i now ≡ take i old
+    left_is = rw v.whole (take_pasted i (i + j) v.tail flat (omega arith) (omega (arith, v.long, olds_are)) ∙ sym (take-take i l flat (omega (arith, v.olds, olds_are))))
 
-  pub news_are : length (part g (g + m) w) ≡ m
-  news_are = length_part g (g + m) w b ∙ omega arith
+    left_long : length (take i now) ≡ i
+    left_long = ap length left_is ∙ length-take-le i old v.olds
 
-  pub merge-start : Merging (part f (f + l) w) (part g (g + m) w) w f g w l m
-  merge-start = merging_start old new w f g l m olds_are news_are
+    last_is : 0 < i → at (take i now) (length (take i now) - 1) ≡ at old (i - 1)
+    last_is p = rw (left_long, left_is) (get_or-take i old (i - 1) nan (omega arith))
 
-  module _ (up : Ascending (part f (f + l) w)) (up' : Ascending (part g (g + m) w)) (now : List Float) (i j : ℕ) (hi : i ≤ l) (hj : j ≤ m) (v : Merging (part f (f + l) w) (part g (g + m) w) w f g now i j) where
-    room : f + (length old + length new) ≤ length w
-    room = omega (arith, olds_are, news_are)
+    read_old : 0 < i → at now (i - 1) ≡ at old (i - 1)
+    read_old p = sym (get_or-take i now (i - 1) nan (omega arith)) ∙ rw left_is (get_or-take i old (i - 1) nan (omega arith))
 
-    read-new : 0 < j → at now (g + j - 1) ≡ at new (j - 1)
-    read-new p =
-        let z : g + j - 1 ≡ g + (j - 1) = omega arith in
-        rw (v.whole, z) (get_or_pasted-after (f + (i + j)) v.tail w (g + (j - 1)) nan (omega (arith, v.long, olds_are, news_are)) (omega arith)
-        ∙ sym (get_d_part g (g + m) w (j - 1) nan (omega arith)))
-
-    read_old : 0 < i → at now (f + i - 1) ≡ at old (i - 1)
-    read_old p =
-        let z : f + i - 1 ≡ f + (i - 1) = omega arith in
-        rw (v.whole, z) (get_or_pasted-before (f + (i + j)) v.tail w (f + (i - 1)) nan (omega arith) (omega arith)
-        ∙ sym (get_d_part f (f + l) w (i - 1) nan (omega arith)))
-
-    pub merge-new : 0 < j → (0 < i → rank_of (at now (f + i - 1)) ≤ rank_of (at now (g + j - 1)))
-        → Merging (part f (f + l) w) (part g (g + m) w) w f g (set now (f + i + j - 1) (at now (g + j - 1))) i (j - 1)
+    pub merge-new : 0 < j → (0 < length (take i now) → rank_of (at (take i now) (length (take i now) - 1)) ≤ rank_of (at new (j - 1)))
+        → Merging (take l flat) new flat (set now (i + j - 1) (at new (j - 1))) i (j - 1)
     merge-new p h =
         let z : j ≡ j - 1 + 1 = omega arith in
-        let v' : Merging old new w f g now i (j - 1 + 1) = subst (λ (k : ℕ). Merging old new w f g now i k) z v in
-        let r = read-new p in
-        rw r (merging-new old new w f g room up up' now i (j - 1) v' (f + i + j - 1) (omega arith)
-        (none-above-first i old (at new (j - 1)) (omega (arith, olds_are)) up (λ q. rw (← read_old q, ← r) (h q))))
+        let v' : Merging old new flat now i (j - 1 + 1) = subst (λ (k : ℕ). Merging old new flat now i k) z v in
+        merging-new old new flat (omega (arith, olds_are)) up up' now i (j - 1) v' (i + j - 1) (omega arith)
+        (none-above-first i old (at new (j - 1)) v.olds up (λ q. rw (last_is q) at (h (omega (arith, left_long)))))
 
-    pub merge_old : 0 < j → 0 < i → rank_of (at now (g + j - 1)) < rank_of (at now (f + i - 1))
-        → Merging (part f (f + l) w) (part g (g + m) w) w f g (set now (f + i + j - 1) (at now (f + i - 1))) (i - 1) j
-    merge_old p q h =
+    pub merge_old : 0 < j → (0 < length (take i now)) × (rank_of (at new (j - 1)) < rank_of (at (take i now) (length (take i now) - 1)))
+        → Merging (take l flat) new flat (set now (i + j - 1) (at now (i - 1))) (i - 1) j
+    merge_old p h =
+        let q : 0 < i = omega (arith, h.0, left_long) in
         let y : i ≡ i - 1 + 1 = omega arith in
         let z : j ≡ j - 1 + 1 = omega arith in
-        let v' : Merging old new w f g now (i - 1 + 1) (j - 1 + 1) = subst (λ (k : ℕ). Merging old new w f g now (i - 1 + 1) k) z (subst (λ (k : ℕ). Merging old new w f g now k j) y v) in
-        rw (read_old q) (subst (λ (k : ℕ). Merging old new w f g (set now (f + i + j - 1) (at old (i - 1))) (i - 1) k) (sym z)
-        (merging_old old new w f g room up up' now (i - 1) (j - 1) v' (f + i + j - 1) (omega arith) (rw (← read-new p, ← read_old q) h)))
+        let v' : Merging old new flat now (i - 1 + 1) (j - 1 + 1) = subst (λ (k : ℕ). Merging old new flat now (i - 1 + 1) k) z (subst (λ (k : ℕ). Merging old new flat now k j) y v) in
+        rw (read_old q) (subst (λ (k : ℕ). Merging old new flat (set now (i + j - 1) (at old (i - 1))) (i - 1) k) (sym z)
+        (merging_old old new flat (omega (arith, olds_are)) up up' now (i - 1) (j - 1) v' (i + j - 1) (omega arith) (rw (last_is q) at h.1)))
+
+    pub merge_end : j ≡ 0 → now ≡ sorted_onto (take l flat) new ++ drop (l + length new) flat
+    unfolding sorted_onto
+    merge_end z =
+        let y : i + j ≡ i = omega arith in
+        let e : i + length v.tail ≡ l + length new = omega (arith, v.long, olds_are) in
+        let r : take i old ++ v.tail ≡ sorted_onto old new = rw z at v.rest in
+        let t : take i flat ≡ take i old = sym (take-take i l flat (omega (arith, v.olds, olds_are))) in
+        v.whole ∙ rw (y, e, t) (sym (append_assoc (take i old) v.tail (drop (l + length new) flat)) ∙ ap (λ (xs : List Float). xs ++ drop (l + length new) flat) r)
 
 -- ---- `take_in`: both are sorted, then merged
 
-module _ (w w₁ w₂ : List Float) (f l g m : ℕ) (a : f + l + m ≤ g) (b : g + m ≤ length w)
-    (e : w₁ ≡ splice f (f + l) (sorted (part f (f + l) w)) w) (h : w₂ ≡ splice g (g + m) (sorted (part g (g + m) w₁)) w₁) where
-  abbrev one : List Float
-  one = part f (f + l) w
+module _ (flat : List Float) (l : ℕ) (h : l ≤ length flat) where
+  -- the first l values, sorted in their own place
+  abbrev placed : List Float
+  placed = sorted (take l flat) ++ drop l flat
 
-  abbrev two : List Float
-  two = part g (g + m) w
+  placed_long : length (sorted (take l flat)) ≡ l
+  placed_long = length-sorted (take l flat) ∙ length-take-le l flat h
 
-  one-long : length (sorted one) ≡ l
-  one-long = length-sorted one ∙ length_part f (f + l) w (omega arith) ∙ omega arith
+  pub placed-front : take l (sorted (take l flat) ++ drop l flat) ≡ sorted (take l flat)
+  placed-front = take_at (sorted (take l flat)) (drop l flat) l placed_long
 
-  two-long : length (sorted two) ≡ m
-  two-long = length-sorted two ∙ length_part g (g + m) w b ∙ omega arith
+  placed_behind : (k : ℕ) → drop (l + k) placed ≡ drop (l + k) flat
+  placed_behind k = sym (drop-drop k l placed) ∙ ap (drop k) (drop_at (sorted (take l flat)) (drop l flat) l placed_long) ∙ drop-drop k l flat
 
-  first : w₁ ≡ pasted f (sorted one) w
-  first = e ∙ splice_is f (f + l) (sorted one) w (omega arith) (omega (arith, one-long))
-
-  first-long : length w₁ ≡ length w
-  first-long = rw first (length_pasted f (sorted one) w (omega (arith, one-long)))
-
-  two-kept : part g (g + m) w₁ ≡ two
-  two-kept = rw first (part_pasted-after f g (g + m) (sorted one) w (omega (arith, one-long)) (omega arith))
-
-  second : w₂ ≡ pasted g (sorted two) w₁
-  second = h ∙ rw two-kept (splice_is g (g + m) (sorted two) w₁ (omega arith) (omega (arith, two-long)))
-
-  pub take_in-long : length w₂ ≡ length w
-  take_in-long = rw second (length_pasted g (sorted two) w₁ (omega (arith, two-long, first-long))) ∙ first-long
-
-  pub take_in_old : part f (f + l) w₂ ≡ sorted (part f (f + l) w)
-  take_in_old =
-      let kept : part f (f + l) w₁ ≡ sorted one = rw first (part_pasted_self f (f + l) (sorted one) w (omega arith) (omega (arith, one-long))) in
-      rw second (part_pasted f (f + l) g (sorted two) w₁ (omega arith) (omega arith) (omega (arith, first-long)) ∙ kept)
-
-  pub take_in-new : part g (g + m) w₂ ≡ sorted (part g (g + m) w)
-  take_in-new = rw second (part_pasted_self g (g + m) (sorted two) w₁ (omega (arith, first-long)) (omega (arith, two-long)))
-
-  pub take_in_done : (w₃ : List Float) → w₃ ≡ splice f (f + (l + m)) (sorted_onto (part f (f + l) w₂) (part g (g + m) w₂)) w₂
-      → w₃ ≡ splice f (f + (l + m)) (sorted (part f (f + l) w ++ part g (g + m) w)) (splice g (g + m) (sorted (part g (g + m) w)) w)
-  take_in_done w₃ k =
-      let s : length (sorted (one ++ two)) ≡ l + m = length-sorted (one ++ two) ∙ simp length-append (omega (arith, length_part f (f + l) w (omega arith), length_part g (g + m) w b)) in
-      let y : length (sorted (one ++ two)) ≡ f + (l + m) - f = omega arith in
-      let u : splice g (g + m) (sorted two) w ≡ pasted g (sorted two) w = splice_is g (g + m) (sorted two) w (omega arith) (omega (arith, two-long)) in
-      let o : w₃ ≡ splice f (f + (l + m)) (sorted (one ++ two)) w₂ = k ∙ rw (take_in_old, take_in-new, sorted_both one two) in
-      let p : w₃ ≡ pasted f (sorted (one ++ two)) (pasted g (sorted two) (pasted f (sorted one) w)) =
-      o ∙ splice_is f (f + (l + m)) (sorted (one ++ two)) w₂ (omega arith) y ∙ ap (pasted f (sorted (one ++ two))) (second ∙ ap (pasted g (sorted two)) first) in
-      p
-      ∙ pasted_over f g (sorted (one ++ two)) (sorted two) (sorted one) w (omega (arith, one-long)) (omega arith) (omega (arith, two-long))
-      ∙ ap (pasted f (sorted (one ++ two))) (sym u)
-      ∙ sym (splice_is f (f + (l + m)) (sorted (one ++ two)) (splice g (g + m) (sorted two) w) (omega arith) y)
+  pub merged : (ys : List Float)
+      → sorted_onto (take l (sorted (take l flat) ++ drop l flat)) (sorted ys) ++ drop (l + length (sorted ys)) (sorted (take l flat) ++ drop l flat)
+      ≡ sorted (take l flat ++ ys) ++ drop (l + length ys) flat
+  merged ys = rw (placed-front, placed_behind (length (sorted ys)), length-sorted ys, sorted_both (take l flat) ys)

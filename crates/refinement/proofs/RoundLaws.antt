@@ -1,19 +1,18 @@
--- A round: the new knots taken in among the flat ones, and what it hands back. For callers: `refined-grows`, `refined_ascending`, `round-stuck`,
--- `round-refined`, `regions-next`; what then stands in the work is in AfterLaws. Assumes nothing.
-use Rattle.std.proofs.Common.{◌≡◌, ℕ, ◌+◌, ◌-◌, ◌<◌, ◌≤◌, Bool, true, false, cond, ◌||◌, eqb, leb, List, ◌++◌, length, drop, sym, refl, ap, ◌∙◌, inl, inr, ⊎_elim, arith, length-append, eq-eqb, ne_eqb, le-leb, leb-false}
+-- A round: the new knots taken in among the flat ones, what stays behind what is written, and the definitions by what the program's steps find. Assumes nothing.
+use Rattle.std.proofs.Common.{◌≡◌, ℕ, ◌+◌, ◌-◌, ◌<◌, ◌≤◌, Bool, true, false, cond, ◌||◌, eqb, leb, List, ◌++◌, length, take, drop, drop-drop, sym, refl, ap, ◌∙◌, arith, length-append, length-take-le, eq-eqb, ne_eqb, le-leb, leb-false}
 use mathlib.Core.Option.{Option, none, some}
 use borrow.Author.Tests.{lt-leb, eqb-false}
+use lib.Seq.{drop-append-add}
 use lib.Ieee.{Float}
-use Rattle.places.specs.Regions.{part, splice}
-use Rattle.places.proofs.RegionLaws.{length_part}
-use Rattle.places.proofs.PlaceLaws.{length-list_of}
-use Rattle.places.proofs.GatheredLaws.{pasted, pasted_is, splice_is, splice_front, pasted_again, part_pasted, part_pasted_self, part_beside}
-use Rattle.geometry.specs.Order.{sorted, Ascending}
+use Rattle.places.specs.Places.{count_below}
+use Rattle.places.proofs.GatheredLaws.{count_most}
 use Rattle.geometry.specs.Root.{roots_of}
-use Rattle.geometry.proofs.SortLaws.{length-sorted, ascending-sorted}
-use Rattle.refinement.specs.declared.Round.TheVariants.{Stuck, Refined}
-use Rattle.refinement.specs.Refinement.{span_ends, worst_of, span_worsts, threshold_of, new_knots, with_knots, refined_knots}
-use Rattle.refinement.specs.Round.{RoundRegions, round_of, knots_in, new_in, keeping, work_after}
+use Rattle.geometry.specs.Order.{sorted}
+use Rattle.geometry.proofs.SortLaws.{length-sorted}
+use Rattle.refinement.specs.Refinement.{span_ends, span_worsts, splits, threshold_of, knots_at, new_knots, with_knots, refined_knots}
+use Rattle.refinement.specs.Round.{headed, fresh_after, round_knots}
+use Rattle.refinement.proofs.SpanLaws.{spans-most}
+use Rattle.refinement.proofs.SplitLaws.{length-knots}
 
 -- ---- taking the new knots in
 
@@ -56,127 +55,74 @@ module _ (n degree : ℕ) (flat new : List Float) where
       let k : length flat - degree - 1 + length new < n = w.1.1 in
       (omega arith, omega arith)
 
-  pub with_ascending : (l : List Float) → with_knots n degree flat new ≡ some l → Ascending l
-  with_ascending l e = rw (with_is l e).0 (ascending-sorted (flat ++ new))
-
--- ---- a round makes the flat knots more, and at most those of n - 1 poles; they are sorted
-
-module _ (params : List Float) (firsts : List ℕ) (deviations : List Float) (most tolerance : Float) (degree : ℕ) (flat l : List Float)
-    (e : refined_knots params firsts deviations most tolerance degree flat ≡ some l) where
-  pub refined-grows : degree + 1 ≤ length flat → (length flat < length l) × (length l ≤ length params + degree)
-  unfolding refined_knots
-  refined-grows h = with-grows (length params) degree flat _ l h e
-
-  pub refined_ascending : Ascending l
-  unfolding refined_knots
-  refined_ascending = with_ascending (length params) degree flat _ l e
-
--- ---- what a round hands back
-
-pub round-stuck : (o : Option (List Float)) → round_of o ≡ Stuck → o ≡ none
-round-stuck none e = refl
-round-stuck (some l) e = let z : ◌≡◌ {A = ℕ} 0 1 = cc in absurd (omega arith)
-
-pub round-refined : (o : Option (List Float)) (k : ℕ) → round_of o ≡ Refined k → (l : List Float) × (o ≡ some l) × (length l ≡ k)
-round-refined none k e = let z : ◌≡◌ {A = ℕ} 0 1 = cc in absurd (omega arith)
-round-refined (some l) k e = (l, refl, cc)
-
--- the next round's regions
-pub regions-next : (n params d f g l degree size k : ℕ) → RoundRegions n params d f g l degree size → l ≤ k → k ≤ n + degree + 1 → RoundRegions n params d f g k degree size
-regions-next n params d f g l degree size k r h m = record {
-  parameters = r.parameters;
-  knots = r.knots;
-  deviations = r.deviations;
-  parameters_end = r.parameters_end;
-  deviations_end = r.deviations_end;
-  knots_end = r.knots_end;
-  new = r.new;
-  least = omega (arith, r.least);
-  most = m;
-}
-
--- ---- `insert_knots`
-
-module _ (f l g count : ℕ) (new w w₁ : List Float) (k : count ≡ length new) (h : f + l ≤ g) (r : g + count ≤ length w) (e : w₁ ≡ splice g (g + length new) new w) where
-  insert_pasted : w₁ ≡ pasted g new w
-  insert_pasted = e ∙ pasted_is g new w
-
-  insert_old : part f (f + l) w₁ ≡ part f (f + l) w
-  insert_old = rw insert_pasted (part_pasted f (f + l) g new w (omega arith) h (omega arith))
-
-  insert-new : part g (g + count) w₁ ≡ new
-  insert-new = rw insert_pasted (part_pasted_self g (g + count) new w (omega arith) (omega arith))
-
-  pub insert-length : length (sorted (part f (f + l) w ++ new)) ≡ l + count
-  insert-length = length-sorted (part f (f + l) w ++ new) ∙ simp length-append (omega (arith, length_part f (f + l) w (omega arith)))
-
-  pub insert_done : (w₂ : List Float)
-      → w₂ ≡ splice f (f + (l + count)) (sorted (part f (f + l) w₁ ++ part g (g + count) w₁)) (splice g (g + count) (sorted (part g (g + count) w₁)) w₁)
-      → w₂ ≡ keeping (some (sorted (part f (f + l) w ++ new))) f g new w
-  insert_done w₂ s =
-      let again : splice g (g + count) (sorted new) w₁ ≡ splice g (g + length new) (sorted new) w =
-      ap (splice g (g + count) (sorted new)) insert_pasted
-      ∙ splice_is g (g + count) (sorted new) (pasted g new w) (omega arith) (omega (arith, length-sorted new))
-      ∙ pasted_again g (sorted new) new w (length-sorted new) (omega arith)
-      ∙ sym (splice_is g (g + length new) (sorted new) w (omega arith) (omega (arith, length-sorted new))) in
-      let long : l + count ≡ length (sorted (part f (f + l) w ++ new)) = sym insert-length in
-      s ∙ rw (insert_old, insert-new, again, long)
-
--- ---- from the spans' worst deviations on
-
-module _ (n params d f g l degree : ℕ) (ends : List ℕ) (tolerance most th : Float) (w w₁ : List Float) (lent : RoundRegions n params d f g l degree (length w)) (k : length ends ≤ n)
-    (e : w₁ ≡ splice d (d + n) (span_worsts (roots_of (part d (d + n) w)) ends ++ drop (length ends) (part d (d + n) w)) w)
-    (t : th ≡ threshold_of ends (part d (d + length ends) w₁) tolerance most) where
-  abbrev worsts : List Float
-  worsts = span_worsts (roots_of (part d (d + n) w)) ends
-
-  long : length worsts ≡ length ends
-  unfolding span_worsts
-  long = length-list_of (length ends) (worst_of (roots_of (part d (d + n) w)) ends)
-
-  fits : d + n ≤ length w
-  fits = omega (arith, lent.deviations_end, lent.new)
-
-  split_pasted : w₁ ≡ pasted d worsts w
-  split_pasted = e ∙ rw (← long) (splice_front d (d + n) worsts w (omega (arith, long)) fits)
-
-  split-work : w₁ ≡ splice d (d + length ends) worsts w
-  split-work = split_pasted ∙ sym (splice_is d (d + length ends) worsts w (omega arith) (omega (arith, long)))
-
-  split-params : part params (params + n) w₁ ≡ part params (params + n) w
-  split-params =
-      rw split_pasted
-      (part_beside params (params + n) d worsts w (omega arith) (omega (arith, fits))
-      (⊎_elim (λ h. inl h) (λ h. inr (omega (arith, long))) lent.parameters))
-
-  split-flat : part f (f + l) w₁ ≡ part f (f + l) w
-  split-flat =
-      rw split_pasted
-      (part_beside f (f + l) d worsts w (omega arith) (omega (arith, fits))
-      (⊎_elim (λ h. inr (omega (arith, long))) (λ h. inl (omega (arith, lent.most))) lent.deviations))
-
-  split_worsts : part d (d + length ends) w₁ ≡ worsts
-  split_worsts = rw split_pasted (part_pasted_self d (d + length ends) worsts w (omega (arith, fits)) (omega (arith, long)))
-
-  pub split-new : knots_in params (params + n) d (d + length ends) ends tolerance th w₁ ≡ new_in n params d ends tolerance most w
-  unfolding new_knots
-  split-new = rw (t, split-params, split_worsts)
-
-  pub split-same : with_knots n degree (part f (f + l) w₁) (knots_in params (params + n) d (d + length ends) ends tolerance th w₁) ≡ with_knots n degree (part f (f + l) w) (new_in n params d ends tolerance most w)
-  split-same = rw (split-new, split-flat)
-
-  -- the work after the round
-  pub split_after : (w₂ : List Float)
-      → w₂ ≡ keeping (with_knots n degree (part f (f + l) w₁) (knots_in params (params + n) d (d + length ends) ends tolerance th w₁)) f g (knots_in params (params + n) d (d + length ends) ends tolerance th w₁) w₁
-      → w₂ ≡ work_after n params d f g l degree tolerance most ends w
-  unfolding work_after
-  split_after w₂ s = s ∙ rw (split-same, split-new, split-work)
-
--- the round's knots, by where its lists stand
-pub refined_inside : (n params d f l degree : ℕ) (firsts : List ℕ) (tolerance most : Float) (w : List Float) → params + n ≤ length w
-    → with_knots n degree (part f (f + l) w) (new_in n params d (span_ends firsts) tolerance most w)
-    ≡ refined_knots (part params (params + n) w) firsts (roots_of (part d (d + n) w)) most tolerance degree (part f (f + l) w)
+-- a round makes the flat knots more, and at most those of n - 1 poles
+pub refined-grows : (params : List Float) (firsts : List ℕ) (deviations : List Float) (most tolerance : Float) (degree : ℕ) (flat l : List Float)
+    → refined_knots params firsts deviations most tolerance degree flat ≡ some l → degree + 1 ≤ length flat
+    → (length flat < length l) × (length l ≤ length params + degree)
 unfolding refined_knots
-refined_inside n params d f l degree firsts tolerance most w h =
-    let m : length (part params (params + n) w) ≡ n = length_part params (params + n) w h ∙ omega arith in
-    rw m
+refined-grows params firsts deviations most tolerance degree flat l e h = with-grows (length params) degree flat _ l h e
+
+-- at most one knot for each span, and so for each parameter
+pub knots-few : (params squares : List Float) (firsts : List ℕ) (most tolerance : Float) → length (round_knots params squares firsts most tolerance) ≤ length firsts
+unfolding new_knots
+knots-few params squares firsts most tolerance =
+    let ends = span_ends firsts in
+    let worsts = span_worsts (roots_of squares) ends in
+    let threshold = threshold_of ends worsts tolerance most in
+    omega (arith, length-knots params ends worsts tolerance threshold, count_most (length ends) (splits ends worsts tolerance threshold), spans-most firsts)
+
+-- ---- what it leaves behind what it writes
+
+pub drop-headed : (n : ℕ) (xs slice : List Float) → length xs ≤ n → drop n (headed xs slice) ≡ drop n slice
+drop-headed n xs slice h =
+    let z : length xs + (n - length xs) ≡ n = omega arith in
+    rw z at (drop-append-add xs (drop (length xs) slice) (n - length xs) ∙ drop-drop (n - length xs) (length xs) slice)
+
+pub fresh-behind : (o : Option (List Float)) (n : ℕ) (new fresh : List Float) → length new ≤ n → drop n (fresh_after o new fresh) ≡ drop n fresh
+fresh-behind none n new fresh h = refl
+fresh-behind (some all) n new fresh h = drop-headed n (sorted new) fresh (omega (arith, length-sorted new))
+
+-- ---- a round by what its steps find
+
+-- the ends of the spans, their worst deviations, the threshold, and how many spans split
+pub record Found (params squares : List Float) (firsts : List ℕ) (most tolerance : Float) (ends : List ℕ) (worsts : List Float) (threshold : Float) (count : ℕ) : Type 0 where
+  pub ends_are : ends ≡ span_ends firsts
+  pub worsts_are : worsts ≡ span_worsts (roots_of squares) (span_ends firsts)
+  pub threshold_is : threshold ≡ threshold_of ends worsts tolerance most
+  pub count_is : count ≡ count_below (length ends) (splits ends worsts tolerance threshold)
+
+module _ {params squares : List Float} {firsts : List ℕ} {most tolerance : Float} {ends : List ℕ} {worsts : List Float} {threshold : Float} {count : ℕ}
+    (f : Found params squares firsts most tolerance ends worsts threshold count) where
+  abbrev new : List Float
+  new = round_knots params squares firsts most tolerance
+
+  pub found-knots : knots_at params ends worsts tolerance threshold ≡ round_knots params squares firsts most tolerance
+  unfolding new_knots
+  found-knots = rw (f.threshold_is, f.ends_are, f.worsts_are)
+
+  pub found-length : length (round_knots params squares firsts most tolerance) ≡ count
+  found-length = ap length (sym found-knots) ∙ length-knots params ends worsts tolerance threshold ∙ sym f.count_is
+
+  pub found-few : count ≤ length firsts
+  found-few = omega (arith, found-length, knots-few params squares firsts most tolerance)
+
+  module _ (degree l : ℕ) (flat : List Float) (h : l ≤ length flat) where
+    flat-long : length (take l flat) ≡ l
+    flat-long = length-take-le l flat h
+
+    pub refined_empty : count ≡ 0 → refined_knots params firsts (roots_of squares) most tolerance degree (take l flat) ≡ none
+    unfolding refined_knots
+    refined_empty z = with_none (length params) degree (take l flat) new (found-length ∙ z)
+
+    pub refined-full : length params ≤ l - degree - 1 + count → refined_knots params firsts (roots_of squares) most tolerance degree (take l flat) ≡ none
+    unfolding refined_knots
+    refined-full z = with_full (length params) degree (take l flat) new (rw (flat-long, found-length) z)
+
+    pub refined-some : (count ≡ 0 → ⊥) → l - degree - 1 + count < length params
+        → refined_knots params firsts (roots_of squares) most tolerance degree (take l flat)
+        ≡ some (sorted (take l flat ++ round_knots params squares firsts most tolerance))
+    unfolding refined_knots
+    refined-some z k = with-some (length params) degree (take l flat) new (λ y. z (sym found-length ∙ y)) (rw (flat-long, found-length) k)
+
+    pub all-long : length (sorted (take l flat ++ round_knots params squares firsts most tolerance)) ≡ l + count
+    all-long = length-sorted (take l flat ++ new) ∙ length-append (take l flat) new ∙ omega (arith, flat-long, found-length)

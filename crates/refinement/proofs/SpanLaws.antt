@@ -1,22 +1,14 @@
 -- The spans that hold parameters: their ends rise and are at most the number of parameters, and the loops that find them and their worst deviations.
 -- Assumes nothing.
-use Rattle.std.proofs.Common.{◌≡◌, ℕ, zero, suc, ◌+◌, ◌%◌, ◌^◌, ◌<◌, ◌≤◌, Bool, true, false, not, eqb, List, [], ◌∷◌, ◌++◌, length, get_or, take, drop, set, sym, refl, ◌∙◌, subst, ⊎_elim, eq-or-lt_of_le, add-one, arith, length-append, length-set, take_at, le-ltb, le-leb}
-use borrow.Author.Tests.{lt-leb}
+use Rattle.std.proofs.Common.{◌≡◌, ℕ, zero, suc, ◌+◌, ◌-◌, ◌<◌, ◌≤◌, Bool, true, false, cond, eqb, List, [], ◌∷◌, ◌++◌, length, get_or, take, drop, set, sym, refl, ◌∙◌, subst, ⊎_elim, eq-or-lt_of_le, add-one, arith, length-append, take_at, ne_eqb}
 use lib.ListN.{get_or-append}
 use lib.Seq.{get_or_at}
 use lib.Ieee.{Float}
 use Rattle.places.specs.Places.{gathered}
+use Rattle.places.proofs.PlaceLaws.{length-list_of}
 use Rattle.places.proofs.GatheredLaws.{front, gathered_yes, gathered_no, length-gathered, count_most, front-next, front-after, length-front_is}
-use Rattle.refinement.specs.Refinement.{closes, span_ends, start_of, lone_misses, lone_before}
+use Rattle.refinement.specs.Refinement.{closes, span_ends, start_of, end_of, worst_of, span_worsts}
 use Rattle.refinement.specs.Round.{Rising, Within}
-
-pub closes-last : (firsts : List ℕ) (k : ℕ) → length firsts ≤ k + 1 → true ≡ closes firsts k
-unfolding closes
-closes-last firsts k h = rw (le-leb (length firsts) (k + 1) h)
-
-pub closes_else : (firsts : List ℕ) (k : ℕ) → k + 1 < length firsts → not (eqb (get_or firsts k 0) (get_or firsts (k + 1) 0)) ≡ closes firsts k
-unfolding closes
-closes_else firsts k h = rw (lt-leb (length firsts) (k + 1) h)
 
 -- the places before k may be written over
 pub closes-front : (xs firsts : List ℕ) (k : ℕ) → length xs ≤ k → k < length firsts → closes (front xs firsts) k ≡ closes firsts k
@@ -24,13 +16,15 @@ unfolding closes
 closes-front xs firsts k h l =
     rw (length-front_is xs firsts (omega arith), front-after xs firsts k 0 h, front-after xs firsts (k + 1) 0 (omega arith))
 
-pub start-zero : (ends : List ℕ) (s : ℕ) → s ≡ 0 → 0 ≡ start_of ends s
+-- as the program tests it
+pub start_is : (ends : List ℕ) (s : ℕ) → start_of ends s ≡ cond (eqb s 0) 0 (get_or ends (s - 1) 0)
 unfolding start_of
-start-zero ends s e = rw e
+start_is ends zero = refl
+start_is ends (suc s) = let z : suc s - 1 ≡ s = omega arith in rw (ne_eqb (suc s) 0 (λ e. omega arith), z)
 
-pub start-next : (ends : List ℕ) (s t : ℕ) → s ≡ t + 1 → get_or ends t 0 ≡ start_of ends s
+pub start_next : (ends : List ℕ) (s : ℕ) → start_of ends (s + 1) ≡ get_or ends s 0
 unfolding start_of
-start-next ends s t e = rw (e, add-one)
+start_next ends s = rw add-one
 
 -- each span before s has one parameter or more
 pub start-far : (ends : List ℕ) → Rising ends → (s : ℕ) → s ≤ length ends → s ≤ start_of ends s
@@ -38,13 +32,9 @@ unfolding start_of
 start-far ends r zero h = omega arith
 start-far ends r (suc s) h = omega (arith, start-far ends r s (omega arith), r s (omega arith))
 
--- ---- the span before s, by wrapping subtraction: before span 0 it is no span
-
-pub before_wrapped : (ends : List ℕ) (worsts : List Float) (tolerance threshold : Float) (s r : ℕ) → (r + 1) % 2 ^ 64 ≡ s → r < 2 ^ 64 → length ends < 2 ^ 63
-    → lone_misses ends worsts tolerance threshold r ≡ lone_before ends worsts tolerance threshold s
-unfolding lone_misses lone_before
-before_wrapped ends worsts tolerance threshold zero r e h l = let z : length ends ≤ r = omega arith in rw (le-ltb r (length ends) z)
-before_wrapped ends worsts tolerance threshold (suc t) r e h l = let z : r ≡ t = omega arith in rw z
+-- span s starts at place s or after it, is not empty, and ends within the parameters
+pub span_inside : (n : ℕ) (ends : List ℕ) → Rising ends → Within n ends → (s : ℕ) → s < length ends → (s ≤ start_of ends s) × (start_of ends s < end_of ends s) × (end_of ends s ≤ n)
+span_inside n ends r w s h = (start-far ends r s (omega arith), r s h, w s h)
 
 -- ---- the ends of the spans rise, and are at most the number of parameters
 
@@ -110,32 +100,39 @@ spans-most firsts = omega (arith, length-gathered (length firsts) (closes firsts
 pub ends-front : (firsts now : List ℕ) (r : ℕ) → r ≡ length (span_ends firsts) → now ≡ front (span_ends firsts) firsts → take r now ≡ span_ends firsts
 ends-front firsts now r e g = rw g (take_at (span_ends firsts) (drop (length (span_ends firsts)) firsts) r (sym e))
 
+pub length-worsts : (deviations : List Float) (ends : List ℕ) → length (span_worsts deviations ends) ≡ length ends
+unfolding span_worsts
+length-worsts deviations ends = length-list_of (length ends) (worst_of deviations ends)
+
 -- ---- the loop of `span_ends`
 
-abbrev pub Ending : List ℕ → List ℕ → ℕ → ℕ → Type 0
-Ending firsts now s k =
-    let ends = gathered k (closes firsts) (λ k. k + 1) in
-    (k ≤ length firsts) × ((s ≡ length ends) × ((s ≤ k) × ((length now ≡ length firsts) × (now ≡ front ends firsts))))
+-- the ends of the spans that close below parameter k stand in front
+abbrev ends_below : List ℕ → ℕ → List ℕ
+ends_below firsts k = gathered k (closes firsts) (λ k. k + 1)
+
+pub record Ending (firsts now : List ℕ) (s k : ℕ) : Type 0 where
+  pub count : s ≡ length (ends_below firsts k)
+  pub behind : s ≤ k
+  pub laid : now ≡ front (ends_below firsts k) firsts
+
+pub ending-none : (firsts : List ℕ) → Ending firsts firsts 0 0
+unfolding gathered
+ending-none firsts = record { count = refl; behind = omega arith; laid = refl }
 
 module _ (firsts now : List ℕ) (s k : ℕ) (h : k < length firsts) (v : Ending firsts now s k) where
   same : closes now k ≡ closes firsts k
-  same = rw v.1.1.1.1 (closes-front (gathered k (closes firsts) (λ k. k + 1)) firsts k (omega arith) h)
+  same = rw v.laid (closes-front (ends_below firsts k) firsts k (omega (arith, v.count, v.behind)) h)
 
   pub ending_yes : closes now k ≡ true → Ending firsts (set now s (k + 1)) (s + 1) (k + 1)
   ending_yes e =
-      let g = gathered_yes k (closes firsts) (λ k. k + 1) (sym same ∙ e) in (
-        omega arith,
-        (
-          rw g (simp length-append (omega arith)),
-          (
-            omega arith,
-            (
-              simp length-set v.1.1.1.0,
-              rw (g, v.1.1.1.1) (front-next (gathered k (closes firsts) (λ k. k + 1)) firsts s (k + 1) 0 v.1.0 (omega arith)),
-            ),
-          ),
-        ),
-      )
+      let g = gathered_yes k (closes firsts) (λ k. k + 1) (sym same ∙ e) in
+      record {
+        count = rw g (simp length-append (omega (arith, v.count)));
+        behind = omega (arith, v.behind);
+        laid = rw (g, v.laid) (front-next (ends_below firsts k) firsts s (k + 1) 0 v.count (omega (arith, v.behind)));
+      }
 
   pub ending_no : closes now k ≡ false → Ending firsts now s (k + 1)
-  ending_no e = rw (gathered_no k (closes firsts) (λ k. k + 1) (sym same ∙ e)) (omega arith, (v.1.0, (omega arith, v.1.1.1)))
+  ending_no e =
+      let g = gathered_no k (closes firsts) (λ k. k + 1) (sym same ∙ e) in
+      record { count = rw g v.count; behind = omega (arith, v.behind); laid = rw g v.laid }

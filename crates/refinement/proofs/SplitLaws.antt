@@ -1,12 +1,21 @@
--- Which spans split: a span that does has two parameters or more, and the loop that lays their knots down. Assumes nothing.
-use Rattle.std.proofs.Common.{◌≡◌, ℕ, ◌+◌, ◌-◌, ◌<◌, ◌≤◌, Bool, true, false, not, ◌&&◌, ◌||◌, ltb, List, length, set, sym, refl, ◌∙◌, true≢false, arith, length-set, ltb-false}
+-- Which spans split: a span that does has two parameters or more, and the loops that count them and lay their knots down. Assumes nothing.
+use Rattle.std.proofs.Common.{◌≡◌, ℕ, zero, suc, ◌+◌, ◌-◌, ◌<◌, ◌≤◌, Bool, true, false, cond, not, ◌&&◌, ◌||◌, ltb, eqb, List, [], ◌∷◌, ◌++◌, length, set, drop, sym, refl, ap, ◌∙◌, true≢false, add-one, arith, length-append, append-nil, ltb-false, ne_eqb}
+use Rattle.std.specs.List.{filter, range_with_len}
+use Rattle.std.proofs.lemmas.List.FromFn.{filter_of_map_range_with_len_more}
+use mathlib.Core.List.{map-id}
+use lib.Seq.{drop-length}
 use lib.Ieee.{Float, nan}
 use Rattle.places.specs.Places.{gathered, count_below}
-use Rattle.places.specs.Regions.{part, splice}
-use Rattle.places.proofs.GatheredLaws.{pasted, gathered_yes, gathered_no, length-gathered, count_yes, count_no, count_mono, pasted-none, pasted-next, pasted_is, part_pasted}
+use Rattle.places.proofs.GatheredLaws.{front, gathered_yes, gathered_no, length-gathered, count_yes, count_no, count_mono, front-next}
 use Rattle.geometry.specs.Doubles.{at}
 use Rattle.refinement.specs.Refinement.{start_of, end_of, lone, misses, lone_misses, lone_before, splits, middle_knot, knots_at}
-use Rattle.refinement.specs.Round.{knots_in}
+
+-- as the program tests it
+pub before_is : (ends : List ℕ) (worsts : List Float) (tolerance threshold : Float) (s : ℕ)
+    → lone_before ends worsts tolerance threshold s ≡ cond (eqb s 0) false (lone_misses ends worsts tolerance threshold (s - 1))
+unfolding lone_before
+before_is ends worsts tolerance threshold zero = refl
+before_is ends worsts tolerance threshold (suc t) = let z : suc t - 1 ≡ t = omega arith in rw (ne_eqb (suc t) 0 (λ e. omega arith), z)
 
 -- a span that splits has two parameters or more
 pub splits_wide : (ends : List ℕ) (worsts : List Float) (tolerance threshold : Float) (s : ℕ) → splits ends worsts tolerance threshold s ≡ true → start_of ends s + 2 ≤ end_of ends s
@@ -26,55 +35,55 @@ pub length-knots : (params : List Float) (ends : List ℕ) (worsts : List Float)
 unfolding knots_at
 length-knots params ends worsts tolerance threshold = length-gathered (length ends) (splits ends worsts tolerance threshold) (middle_knot params ends)
 
--- ---- the loop of `push_knots`
+-- the numbers below n that have p, one by one
+pub count_range : (p : ℕ → Bool) (n : ℕ) → length (filter p (range_with_len 0 n)) ≡ count_below n p
+unfolding count_below
+count_range p zero = refl
+count_range p (suc n) =
+    let more : filter p (range_with_len 0 (n + 1)) ≡ filter p (range_with_len 0 n) ++ cond (p n) (n ∷ []) [] = simp map-id at (filter_of_map_range_with_len_more p (λ k. k) 0 n n (omega arith)) in
+    rw add-one at (ap length more) ∙ length-append (filter p (range_with_len 0 n)) (cond (p n) (n ∷ []) []) ∙ go (p n) (count_range p n)
+  where
+    go : (b : Bool) → length (filter p (range_with_len 0 n)) ≡ count_below n p
+        → length (filter p (range_with_len 0 n)) + length {A = ℕ} (cond b (n ∷ []) []) ≡ count_below n p + cond b 1 0
+    go true e = omega arith
+    go false e = omega arith
 
-module _ (work : List Float) (ends : List ℕ) (p q d e to : ℕ) (tolerance threshold : Float) where
+-- ---- the loop of `lay_knots`
+
+module _ (params : List Float) (ends : List ℕ) (worsts : List Float) (tolerance threshold : Float) (old : List Float) where
   abbrev pub split : ℕ → Bool
-  split s = splits ends (part d e work) tolerance threshold s
+  split = splits ends worsts tolerance threshold
 
   abbrev pub knots : ℕ → List Float
-  knots s = gathered s split (middle_knot (part p q work) ends)
+  knots s = gathered s split (middle_knot params ends)
 
-  abbrev pub Pushing : List Float → ℕ → ℕ → Type 0
-  Pushing now at s = (s ≤ length ends) × ((at ≡ to + count_below s split) × ((length now ≡ length work) × (now ≡ pasted to (knots s) work)))
+  -- the knots of the spans below s stand in front
+  pub record Laying (now : List Float) (at s : ℕ) : Type 0 where
+    pub count : at ≡ count_below s split
+    pub laid : now ≡ front (knots s) old
 
-  pub pushing-none : Pushing work to 0
+  pub laying-none : Laying old 0 0
   unfolding gathered count_below
-  pushing-none = (omega arith, (omega arith, (refl, pasted-none to work)))
+  laying-none = record { count = refl; laid = refl }
 
-  module _ (o : p ≤ q) (h : q ≤ to) (g : e ≡ d + length ends) (k : e ≤ to) (room : to + length (knots_in p q d e ends tolerance threshold work) ≤ length work) (now : List Float) (at s : ℕ) (v : Pushing now at s) where
-    count_room : to + count_below (length ends) split ≤ length work
-    count_room = omega (arith, length-knots (part p q work) ends (part d e work) tolerance threshold)
+  module _ (room : length old ≡ count_below (length ends) split) (now : List Float) (at s : ℕ) (v : Laying now at s) where
+    pub laying-room : s < length ends → split s ≡ true → at < length old
+    laying-room l y = omega (arith, room, v.count, count_yes s split y, count_mono split (s + 1) (length ends) (omega arith))
 
-    pub pushing_worsts : part d e now ≡ part d e work
-    pushing_worsts = rw v.1.1.1 (part_pasted d e to (knots s) work (omega arith) k (omega arith))
+    pub laying_yes : s < length ends → split s ≡ true → (knot : Float) → knot ≡ middle_knot params ends s → Laying (set now at knot) (at + 1) (s + 1)
+    laying_yes l y knot w =
+        let r = laying-room l y in
+        let m : length (knots s) ≡ at = length-gathered s split (middle_knot params ends) ∙ sym v.count in
+        record {
+          count = omega (arith, v.count, count_yes s split y);
+          laid = rw (gathered_yes s split (middle_knot params ends) y, ← w, v.laid) (front-next (knots s) old at knot nan (sym m) r);
+        }
 
-    pub pushing-params : part p q now ≡ part p q work
-    pushing-params = rw v.1.1.1 (part_pasted p q to (knots s) work o h (omega arith))
+    pub laying_no : split s ≡ false → Laying now at (s + 1)
+    laying_no z = record { count = v.count ∙ sym (count_no s split z); laid = rw (gathered_no s split (middle_knot params ends) z) v.laid }
 
-    module _ (l : s < length ends) where
-      pub pushing-room : split s ≡ true → at < length now
-      pushing-room y = omega (arith, count_room, count_yes s split y, count_mono split (s + 1) (length ends) (omega arith))
-
-      pub pushing_yes : split s ≡ true → (knot : Float) → knot ≡ middle_knot (part p q work) ends s → Pushing (set now at knot) (at + 1) (s + 1)
-      pushing_yes y knot w =
-          let m : length (knots s) ≡ count_below s split = length-gathered s split (middle_knot (part p q work) ends) in
-          let r = pushing-room y in (
-            omega arith,
-            (
-              omega (arith, count_yes s split y),
-              (
-                simp length-set v.1.1.0,
-                rw (gathered_yes s split (middle_knot (part p q work) ends) y, ← w, v.1.1.1) (pasted-next to (knots s) work at knot nan (omega arith) (omega arith)),
-              ),
-            ),
-          )
-
-      pub pushing_no : split s ≡ false → Pushing now at (s + 1)
-      pushing_no z =
-          (omega arith, (omega (arith, count_no s split z), (v.1.1.0, rw (gathered_no s split (middle_knot (part p q work) ends) z) v.1.1.1)))
-
-  pub pushing_end : (now : List Float) (at s : ℕ) → s ≡ length ends → Pushing now at s
-      → now ≡ splice to (to + length (knots_in p q d e ends tolerance threshold work)) (knots_in p q d e ends tolerance threshold work) work
-  unfolding knots_at
-  pushing_end now at s z v = rw z at v.1.1.1 ∙ sym (pasted_is to (knots (length ends)) work)
+    pub laying_end : s ≡ length ends → now ≡ knots_at params ends worsts tolerance threshold
+    unfolding knots_at
+    laying_end e =
+        let m : length (knots s) ≡ length old = length-gathered s split (middle_knot params ends) ∙ rw e (sym room) in
+        v.laid ∙ ap (λ (n : ℕ). knots s ++ drop n old) m ∙ ap (λ (l : List Float). knots s ++ l) (drop-length old) ∙ append-nil (knots s) ∙ ap knots e

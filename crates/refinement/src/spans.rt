@@ -1,24 +1,22 @@
 // The knot spans that hold parameters, by the parameters' first poles: where each ends, and how far its worst parameter is off.
-ghost use Rattle.std.specs.Prelude.{◌≡◌, ◌<◌, ◌≤◌, ◌++◌, length, drop};
+ghost use Rattle.std.specs.Prelude.{◌≡◌, ◌+◌, ◌<◌, ◌≤◌, length};
 ghost use Rattle.geometry.specs.Root.{roots_of};
-ghost use Rattle.refinement.specs.Refinement.{closes, span_ends, start_of, span_worsts};
-ghost use Rattle.refinement.specs.Round.{Rising, Within};
+ghost use Rattle.refinement.specs.Refinement.{closes, span_ends, start_of, end_of, lone, span_worsts, middle_knot};
+ghost use Rattle.refinement.specs.Round.{Rising, Within, headed};
 
 // Whether parameter k is the last of its span.
+#[tactic(auto, unfolding(crate::specs::Refinement::closes))]
 fn closes_span(firsts: &[usize], k: usize) -> bool
     requires { k < length firsts.now }
     ensures { result ≡ closes firsts.now k }
 {
-    let next = k + 1;
-    if firsts.len() <= next {
-        return true;
-    }
-    firsts[k] != firsts[next]
+    firsts.len() <= k + 1 || firsts[k] != firsts[k + 1]
 }
 
 // The ends of the spans take the first poles' places, from the front on. How many there are.
 pub fn span_ends(firsts: &mut [usize]) -> usize
-    ensures { (result ≡ length (span_ends firsts.old)) × (firsts.new ≡ span_ends firsts.old ++ drop (length (span_ends firsts.old)) firsts.old) }
+    ensures count { result ≡ length (span_ends firsts.old) }
+    ensures in_front { firsts.new ≡ headed (span_ends firsts.old) firsts.old }
 {
     let mut s = 0;
     for k in 0..firsts.len() {
@@ -30,26 +28,55 @@ pub fn span_ends(firsts: &mut [usize]) -> usize
     s
 }
 
-// Where span s starts.
-pub fn start_of(ends: &[usize], s: usize) -> usize
-    requires { s ≤ length ends.now }
-    ensures { result ≡ start_of ends.now s }
-{
-    if s == 0 {
-        return 0;
-    }
-    ends[s - 1]
+// The parameters, and for each span one past the last of its own.
+#[derive(Clone, Copy)]
+pub struct Spans<'a> {
+    pub params: &'a [f64],
+    pub ends: &'a [usize],
+    pub ghost rising: { Rising ends.now },
+    pub ghost within: { Within (length params.now) ends.now },
 }
 
-// The squares of the parameters' deviations give way, from the front on, to each span's worst deviation: the root of its largest square.
-pub fn worst_spans(squares: &mut [f64], ends: &[usize])
-    requires { Rising ends.now × Within (length squares.old) ends.now }
-    ensures { squares.new ≡ span_worsts (roots_of squares.old) ends.now ++ drop (length ends.now) squares.old }
-{
-    for s in 0..ends.len() {
-        let a = start_of(ends, s);
-        let e = ends[s];
-        let most = geometry::doubles::largest_of(&squares[a..e]);
-        squares[s] = geometry::root::sqrt(most);
+impl<'a> Spans<'a> {
+    // Where span s starts.
+    #[tactic(auto, using(crate::proofs::SpanLaws::start_is))]
+    pub fn start_of(self, s: usize) -> usize
+        requires { s ≤ length self.ends.now }
+        ensures { result ≡ start_of self.entry.ends.now s }
+    {
+        if s == 0 { 0 } else { self.ends[s - 1] }
+    }
+
+    // Whether span s has a lone parameter, which no knot can part.
+    #[tactic(auto, unfolding(crate::specs::Refinement::lone))]
+    pub fn is_lone(self, s: usize) -> bool
+        requires { s < length self.ends.now }
+        ensures { result ≡ lone self.entry.ends.now s }
+    {
+        self.ends[s] - self.start_of(s) < 2
+    }
+
+    // Halfway between the middle two parameters of span s.
+    #[tactic(auto, unfolding(crate::specs::Refinement::middle_knot))]
+    pub fn middle_knot(self, s: usize) -> f64
+        requires { (s < length self.ends.now) × (start_of self.ends.now s + 2 ≤ end_of self.ends.now s) }
+        ensures { result ≡ middle_knot self.entry.params.now self.entry.ends.now s }
+    {
+        let start = self.start_of(s);
+        let middle = start + (self.ends[s] - start) / 2;
+        0.5 * (self.params[middle - 1] + self.params[middle])
+    }
+
+    // The squares of the parameters' deviations give way, from the front on, to each span's worst deviation: the root of its largest square.
+    pub fn find_worsts(self, squares: &mut [f64])
+        requires { length squares.old ≡ length self.params.now }
+        ensures { squares.new ≡ headed (span_worsts (roots_of squares.old) self.entry.ends.now) squares.old }
+    {
+        let mut start = 0;
+        for (s, end) in self.ends.iter().enumerate() {
+            let most = geometry::doubles::largest_of(&squares[start..*end]);
+            squares[s] = geometry::root::sqrt(most);
+            start = *end;
+        }
     }
 }

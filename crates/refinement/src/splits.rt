@@ -1,120 +1,95 @@
 // Which spans split, and the knots that split them.
-ghost use Rattle.std.specs.Prelude.{◌≡◌, ◌+◌, ◌-◌, ◌<◌, ◌≤◌, length};
+ghost use Rattle.std.specs.Prelude.{◌≡◌, ◌<◌, ◌≤◌, length};
 ghost use Rattle.places.specs.Places.{count_below};
-ghost use Rattle.places.specs.Regions.{splice};
-ghost use Rattle.refinement.specs.Refinement.{start_of, end_of, lone, misses, lone_misses, splits, threshold_of, middle_knot};
-ghost use Rattle.refinement.specs.Round.{Rising, Within, knots_in};
+ghost use Rattle.refinement.specs.Refinement.{misses, lone_misses, lone_before, splits, threshold_of, knots_at};
 
-use crate::spans;
+use crate::spans::Spans;
 
-// Whether span s has a lone parameter, which no knot can part.
-fn is_lone(ends: &[usize], s: usize) -> bool
-    requires { (s < length ends.now) × Rising ends.now }
-    ensures { result ≡ lone ends.now s }
-{
-    let a = spans::start_of(ends, s);
-    ends[s] - a < 2
+// The spans with the worst deviation of each, and what those are held against.
+#[derive(Clone, Copy)]
+pub struct Splitting<'a> {
+    pub spans: Spans<'a>,
+    pub worsts: &'a [f64],
+    pub tolerance: f64,
+    pub threshold: f64,
+    pub ghost measured: { length spans.ends.now ≤ length worsts.now },
 }
 
-fn is_beyond(d: f64, tolerance: f64, threshold: f64) -> bool
-    ensures { result ≡ misses tolerance threshold d }
-{
-    d > tolerance && d >= threshold
-}
+impl<'a> Splitting<'a> {
+    // Whether a deviation is beyond the tolerance, and not below the threshold.
+    #[tactic(auto, unfolding(crate::specs::Refinement::misses))]
+    fn misses(self, d: f64) -> bool
+        ensures { result ≡ misses self.entry.tolerance self.entry.threshold d }
+    {
+        d > self.tolerance && d >= self.threshold
+    }
 
-// Whether t is a span with a lone parameter, which misses.
-fn lone_misses(ends: &[usize], worsts: &[f64], t: usize, tolerance: f64, threshold: f64) -> bool
-    requires { Rising ends.now × (length ends.now ≤ length worsts.now) }
-    ensures { result ≡ lone_misses ends.now worsts.now tolerance threshold t }
-{
-    if ends.len() <= t {
-        return false;
+    // Whether t is a span with a lone parameter, which misses.
+    #[tactic(auto, unfolding(crate::specs::Refinement::lone_misses))]
+    fn lone_misses(self, t: usize) -> bool
+        ensures { result ≡ lone_misses self.entry.spans.ends.now self.entry.worsts.now self.entry.tolerance self.entry.threshold t }
+    {
+        t < self.spans.ends.len() && self.spans.is_lone(t) && self.misses(self.worsts[t])
     }
-    if is_lone(ends, t) {
-        is_beyond(worsts[t], tolerance, threshold)
-    } else {
-        false
-    }
-}
 
-// Whether span s splits. The span before span 0 is none, as its number is past all.
-fn splits_span(ends: &[usize], worsts: &[f64], s: usize, tolerance: f64, threshold: f64) -> bool
-    requires { (s < length ends.now) × (Rising ends.now × (length ends.now ≤ length worsts.now)) }
-    ensures { result ≡ splits ends.now worsts.now tolerance threshold s }
-{
-    if is_lone(ends, s) {
-        return false;
+    // Whether the span before s is one.
+    #[tactic(auto, using(crate::proofs::SplitLaws::before_is))]
+    fn lone_before(self, s: usize) -> bool
+        ensures { result ≡ lone_before self.entry.spans.ends.now self.entry.worsts.now self.entry.tolerance self.entry.threshold s }
+    {
+        0 < s && self.lone_misses(s - 1)
     }
-    if is_beyond(worsts[s], tolerance, threshold) {
-        return true;
-    }
-    let before = std::num::wrapping_sub_usize(s, 1);
-    if lone_misses(ends, worsts, before, tolerance, threshold) {
-        return true;
-    }
-    lone_misses(ends, worsts, s + 1, tolerance, threshold)
-}
 
-// How many spans split.
-pub fn count_splits(ends: &[usize], worsts: &[f64], tolerance: f64, threshold: f64) -> usize
-    requires { Rising ends.now × (length ends.now ≤ length worsts.now) }
-    ensures { result ≡ count_below (length ends.now) (splits ends.now worsts.now tolerance threshold) }
-{
-    let mut count: usize = 0;
-    for s in 0..ends.len() {
-        if splits_span(ends, worsts, s, tolerance, threshold) {
-            count += 1;
+    // Whether span s splits.
+    #[tactic(auto, unfolding(crate::specs::Refinement::splits))]
+    fn splits(self, s: usize) -> bool
+        requires { s < length self.spans.ends.now }
+        ensures { result ≡ splits self.entry.spans.ends.now self.entry.worsts.now self.entry.tolerance self.entry.threshold s }
+    {
+        !self.spans.is_lone(s)
+            && (self.misses(self.worsts[s]) || self.lone_before(s) || self.lone_misses(s + 1))
+    }
+
+    // How many spans split.
+    pub fn count(self) -> usize
+        ensures { result ≡ count_below (length self.entry.spans.ends.now) (splits self.entry.spans.ends.now self.entry.worsts.now self.entry.tolerance self.entry.threshold) }
+    {
+        (0..self.spans.ends.len())
+            .filter(|s| self.splits(*s))
+            .count()
+    }
+
+    // The knots of the spans that split.
+    pub fn lay_knots(self, fresh: &mut [f64])
+        requires { length fresh.old ≡ count_below (length self.spans.ends.now) (splits self.spans.ends.now self.worsts.now self.tolerance self.threshold) }
+        ensures { fresh.new ≡ knots_at self.entry.spans.params.now self.entry.spans.ends.now self.entry.worsts.now self.entry.tolerance self.entry.threshold }
+    {
+        let mut at = 0;
+        for s in 0..self.spans.ends.len() {
+            if self.splits(s) {
+                fresh[at] = self.spans.middle_knot(s);
+                at += 1;
+            }
         }
     }
-    count
 }
 
 // Halfway between the tolerance and the largest deviation; the tolerance, where no span splits at that.
-pub fn threshold_of(ends: &[usize], worsts: &[f64], tolerance: f64, most: f64) -> f64
-    requires { Rising ends.now × (length ends.now ≤ length worsts.now) }
-    ensures { result ≡ threshold_of ends.now worsts.now tolerance most }
+#[tactic(auto, unfolding(crate::specs::Refinement::threshold_of))]
+pub fn threshold_of(spans: Spans, worsts: &[f64], tolerance: f64, most: f64) -> f64
+    requires { length spans.ends.now ≤ length worsts.now }
+    ensures { result ≡ threshold_of spans.entry.ends.now worsts.now tolerance most }
 {
     let half = 0.5 * (tolerance + most);
-    if count_splits(ends, worsts, tolerance, half) == 0 {
+    let halfway = Splitting {
+        spans,
+        worsts,
+        tolerance,
+        threshold: half,
+    };
+    if halfway.count() == 0 {
         tolerance
     } else {
         half
-    }
-}
-
-// Halfway between the middle two parameters of span s.
-fn middle_knot(params: &[f64], ends: &[usize], s: usize) -> f64
-    requires { (s < length ends.now) × ((start_of ends.now s + 2 ≤ end_of ends.now s) × (end_of ends.now s ≤ length params.now)) }
-    ensures { result ≡ middle_knot params.now ends.now s }
-{
-    let a = spans::start_of(ends, s);
-    let middle = a + (ends[s] - a) / 2;
-    0.5 * (params[middle - 1] + params[middle])
-}
-
-// The knots of the spans that split stand in the work from place `to` on. The parameters are at p..q, the spans' worst deviations at d..e.
-pub fn push_knots(
-    work: &mut [f64],
-    ends: &[usize],
-    p: usize,
-    q: usize,
-    d: usize,
-    e: usize,
-    to: usize,
-    tolerance: f64,
-    threshold: f64,
-)
-    requires rising { Rising ends.now × Within (q - p) ends.now }
-    requires in_order { (p ≤ q) × ((q ≤ to) × ((e ≡ d + length ends.now) × (e ≤ to))) }
-    requires room { to + length (knots_in p q d e ends.now tolerance threshold work.old) ≤ length work.old }
-    ensures { work.new ≡ splice to (to + length (knots_in p q d e ends.now tolerance threshold work.old)) (knots_in p q d e ends.now tolerance threshold work.old) work.old }
-{
-    let mut at = to;
-    for s in 0..ends.len() {
-        if splits_span(ends, &work[d..e], s, tolerance, threshold) {
-            let knot = middle_knot(&work[p..q], ends, s);
-            work[at] = knot;
-            at += 1;
-        }
     }
 }

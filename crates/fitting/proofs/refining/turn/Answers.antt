@@ -8,8 +8,8 @@ returns-then-m-tolerance c =
     let x = c.attempt in
     turn-fits a.job a.points.now a.work.now a.index.now c.requires.0 a.l c.requires.1 a.tolerance x.new.work x.new.index c.in-Fitting.m (rw c.in-Fitting.is at x.ensures) c.if-m-tolerance.true
 
-pub refine-requires : goal.refine-requires
-refine-requires c =
+pub split_spans-requires : goal.split_spans-requires
+split_spans-requires c =
     let a = c.args in
     let x = c.attempt in
     turn-regions a.job a.points.now a.work.now a.index.now c.requires.0 a.l c.requires.1 a.tolerance x.new.work x.new.index c.in-Fitting.m (rw c.in-Fitting.is at x.ensures)
@@ -20,16 +20,16 @@ returns-in-Unfitted c =
     let x = c.attempt in
     turn_unfitted a.job a.points.now a.work.now a.index.now c.requires.0 a.l c.requires.1 a.tolerance x.new.work x.new.index (rw c.in-Unfitted.is at x.ensures)
 
-pub returns-in-Stuck : goal.returns-in-Stuck
-returns-in-Stuck c =
+pub returns-in-None : goal.returns-in-None
+returns-in-None c =
     let a = c.args in
     let x = c.attempt in
-    let q = c.refine in
-    turn-stuck a.job a.points.now a.work.now a.index.now c.requires.0 a.l c.requires.1 a.tolerance x.new.work x.new.index c.in-Fitting.m (rw c.in-Fitting.is at x.ensures) c.if-m-tolerance.false q.new.work q.new.firsts q.ensures.firsts_after q.result q.ensures.value q.ensures.work_after c.in-Stuck.is
+    let q = c.split_spans in
+    turn-stuck a.job a.points.now a.work.now a.index.now c.requires.0 a.l c.requires.1 a.tolerance x.new.work x.new.index c.in-Fitting.m (rw c.in-Fitting.is at x.ensures) c.if-m-tolerance.false q.new.work q.new.firsts q.auto.firsts q.result q.ensures c.in-None.is
 
-pub returns-in-Refined : goal.returns-in-Refined
-returns-in-Refined c =
+pub returns-in-Some : goal.returns-in-Some
+returns-in-Some c =
     let a = c.args in
     let x = c.attempt in
-    let q = c.refine in
-    turn-next a.job a.points.now a.work.now a.index.now c.requires.0 a.l c.requires.1 a.tolerance x.new.work x.new.index c.in-Fitting.m (rw c.in-Fitting.is at x.ensures) c.if-m-tolerance.false q.new.work q.new.firsts q.ensures.firsts_after q.result q.ensures.value q.ensures.work_after c.in-Refined.k c.in-Refined.is
+    let q = c.split_spans in
+    turn-next a.job a.points.now a.work.now a.index.now c.requires.0 a.l c.requires.1 a.tolerance x.new.work x.new.index c.in-Fitting.m (rw c.in-Fitting.is at x.ensures) c.if-m-tolerance.false q.new.work q.new.firsts q.auto.firsts q.result q.ensures c.in-Some.k c.in-Some.is

@@ -1,14 +1,12 @@
--- The loop's invariant: the ends gathered so far stand at the front, and s is how many they are; no place at or after k has been written. Assumes nothing.
-use Rattle.std.proofs.Common.{◌≡◌, length, sym, refl, ◌∙◌, arith}
-use Rattle.places.specs.Places.{gathered}
+-- The loop's invariant (Ending): the ends gathered so far stand at the front, and s is how many they are; no place at or after k has been written. Assumes nothing.
+use Rattle.std.proofs.Common.{◌≡◌, length, sym, ◌∙◌, arith}
 use Rattle.refinement.specs.Refinement.{span_ends}
-use Rattle.refinement.proofs.SpanLaws.{ending_yes, ending_no}
+use Rattle.refinement.proofs.SpanLaws.{ending-none, ending_yes, ending_no}
 use Rattle.refinement.proofs.spans.span_ends.Goals as goal
 use Rattle.refinement.proofs.spans.span_ends.Goals.{then-closes_span, else-closes_span}
 
 pub loop-k-init : goal.loop-k-init
-unfolding gathered
-loop-k-init c = (omega arith, (refl, (omega arith, (refl, refl))))
+loop-k-init c = ending-none c.args.firsts.now
 
 pub loop-k-preserved : goal.loop-k-preserved
 loop-k-preserved c =
@@ -23,5 +21,6 @@ loop-k-preserved c =
 pub returns : goal.returns
 unfolding span_ends
 returns c =
+    let v = c.loop-k.invariant in
     let e : c.loop-k.k ≡ length c.args.firsts.now = omega arith in
-    (rw e at c.loop-k.invariant.1.0, rw e at c.loop-k.invariant.1.1.1.1)
+    record { count = rw e at v.count; in_front = rw e at v.laid }
