@@ -1,14 +1,15 @@
 -- Refinement in a job's regions: one round, that rounds which are enough for the parameters are enough, and the loop over them. Assumes nothing.
-use mathlib.Core.Path.{◌≡◌, refl, sym, ◌∙◌, ap, subst}
+use mathlib.Core.Path.{◌≡◌, refl, sym, ◌∙◌, ap}
 use mathlib.Core.Bool.{Bool, true, false, cond}
 use mathlib.Core.List.{List, ◌++◌}
 use mathlib.Core.Logic.{inl, inr}
-use mathlib.Core.Option.{Option, none, some}
+use mathlib.Core.Option.{Option as Maybe, none, some}
 use Prim.Native.Nat.{ℕ, zero, suc, ◌+◌, ◌-◌, ◌*◌, ◌≤◌, ◌<◌}
 use native.Mathlib.Omega.{arith}
 use lib.ListN.{length, drop, length-drop, length-append}
 use lib.Seq.{take_all}
 use lib.Ieee.{Float, le}
+use Rattle.std.specs.Prelude.{Option, Some, None}
 use Rattle.places.specs.Regions.{part, splice}
 use Rattle.places.proofs.RegionLaws.{length_part, part-splice}
 use Rattle.geometry.specs.Doubles.{largest}
@@ -30,12 +31,9 @@ use Rattle.refinement.proofs.SpanLaws.{spans-most}
 use Rattle.refinement.proofs.RoundLaws.{refined-grows, round-stuck}
 use Rattle.refinement.proofs.AfterLaws.{Refines, refines, after-length, after-take, after-part}
 use Rattle.fitting.specs.declared.Job.{Job}
-use Rattle.fitting.specs.declared.Attempt.{Attempt}
-use Rattle.fitting.specs.declared.Attempt.TheVariants.{Unfitted, Fitting}
 use Rattle.fitting.specs.declared.Turn.{Turn}
-use Rattle.fitting.specs.declared.Turn.TheVariants.{Ended, Fits, Next}
+use Rattle.fitting.specs.declared.Turn.TheVariants.{Fits, Next}
 use Rattle.fitting.specs.declared.Reached.{Reached}
-use Rattle.fitting.specs.declared.Reached.TheVariants.{Missed, Met}
 use Rattle.fitting.specs.Within.{Candidate, table_on, fit_on, Refining, going, fitted, stuck, going_on, judged, refinement_round, refinement_rounds, fit_in, fit_with_refined_knots}
 use Rattle.fitting.specs.Jobs.{direction_of, flat_region, candidate_in, attempted, turned, refined_in, HasJob, HasKnots, Attempts, Turns, RefinesWithin}
 use Rattle.fitting.proofs.AttemptLaws.{fills, params-long, has_job-kept, direction-kept, kept-knots, has_job_put, direction_put, flat_put, missed, met, reaches_later}
@@ -63,7 +61,7 @@ module _ (d : Direction) (t : Float) where
   unfolding refinement_round judged going_on
   round-grows flat all h e = by-fit (fit_on d flat) e
     where
-      by_next : (f : Candidate) (o : Option (List Float)) → refined_knots d.params (table_on d flat).firsts (d.deviations f.distances) (largest f.distances) t d.degree flat ≡ o
+      by_next : (f : Candidate) (o : Maybe (List Float)) → refined_knots d.params (table_on d flat).firsts (d.deviations f.distances) (largest f.distances) t d.degree flat ≡ o
           → going_on o ≡ going all → (length flat < length all) × (length all ≤ length d.params + d.degree)
       by_next f none q r = let z : ◌≡◌ {A = ℕ} 0 1 = cc in absurd (omega arith)
       by_next f (some x) q r =
@@ -76,7 +74,7 @@ module _ (d : Direction) (t : Float) where
       by_test true f r = let z : ◌≡◌ {A = ℕ} 0 1 = cc in absurd (omega arith)
       by_test false f r = by_next f (refined_knots d.params (table_on d flat).firsts (d.deviations f.distances) (largest f.distances) t d.degree flat) refl r
 
-      by-fit : (o : Option Candidate) → judged d t flat o ≡ going all → (length flat < length all) × (length all ≤ length d.params + d.degree)
+      by-fit : (o : Maybe Candidate) → judged d t flat o ≡ going all → (length flat < length all) × (length all ≤ length d.params + d.degree)
       by-fit none r = let z : ◌≡◌ {A = ℕ} 0 1 = cc in absurd (omega arith)
       by-fit (some f) r = by_test (largest_within t f.distances) f r
 
@@ -121,7 +119,7 @@ module _ (d : Direction) (t : Float) where
 part-rest : (e n : ℕ) (l : List Float) → length l ≡ n → part e n l ≡ drop e l
 part-rest e n l h = take_all (n - e) (drop e l) (omega (arith, length-drop e l))
 
-module _ (j : Job) (points w : List Float) (index : List ℕ) (has : HasJob j points w index) (l : ℕ) (knots : HasKnots j l) (t : Float) where
+module _ {j : Job} {points w : List Float} {index : List ℕ} (has : HasJob j points w index) {l : ℕ} (knots : HasKnots j l) (t : Float) where
   abbrev d : Direction
   d = direction_of j points w index
 
@@ -131,34 +129,34 @@ module _ (j : Job) (points w : List Float) (index : List ℕ) (has : HasJob j po
   abbrev last : ℕ
   last = j.fresh + j.table.count
 
-  kept_attempt : (w₁ : List Float) → Kept j.table.values (j.deviations + j.table.count) w w₁ → Kept j.flat last w w₁
-  kept_attempt w₁ x = kept_wider j.table.values (j.deviations + j.table.count) j.flat last w w₁ (omega (arith, has.flat_in)) (omega (arith, has.deviations_in)) x
+  abbrev start : ℕ
+  start = j.table.firsts
 
-  module _ (w₁ : List Float) (index₁ : List ℕ) where
-    abbrev start : ℕ
-    start = j.table.firsts
+  abbrev end : ℕ
+  end = j.table.firsts + j.table.count
 
-    abbrev end : ℕ
-    end = j.table.firsts + j.table.count
+  firsts-long : length (table_on d flat).firsts ≡ end - start
+  unfolding direction_of flat_region
+  firsts-long = length-firsts j.table j.flat (j.flat + l) j.params w w index index (fills j points w index has l knots) ∙ omega arith
 
-    firsts-long : length (table_on d flat).firsts ≡ end - start
-    unfolding direction_of flat_region
-    firsts-long = length-firsts j.table j.flat (j.flat + l) j.params w w index index (fills j points w index has l knots) ∙ omega arith
+  kept_attempt : {w₁ : List Float} → Kept j.table.values (j.deviations + j.table.count) w w₁ → Kept j.flat last w w₁
+  kept_attempt {w₁} x = kept_wider j.table.values (j.deviations + j.table.count) j.flat last w w₁ (omega (arith, has.flat_in)) (omega (arith, has.deviations_in)) x
 
-    pub index_kept : (r : Attempt) → Attempts j points l w w₁ index index₁ r → Kept start end index index₁
-    index_kept r x = rw x.firsts (kept-splice start end (table_on d flat).firsts index (omega arith) has.firsts_in firsts-long)
+  module _ {w₁ : List Float} {index₁ : List ℕ} where
+    index_kept : {r : Option Measured} → Attempts j points l w w₁ index index₁ r → Kept start end index index₁
+    index_kept x = rw x.firsts (kept-splice start end (table_on d flat).firsts index (omega arith) has.firsts_in firsts-long)
 
-    pub turn_unfitted : Attempts j points l w w₁ index index₁ Unfitted → Turns j points l t w w₁ index index₁ Ended
+    pub turn_unfitted : Attempts j points l w w₁ index index₁ None → Turns j points l t w w₁ index index₁ None
     unfolding attempted turned
     turn_unfitted x = record {
       answer = round_unfitted d t flat x.answer;
       measures = λ y z. let u : ◌≡◌ {A = ℕ} 0 1 = cc in absurd (omega arith);
       grows = λ k z. let u : ◌≡◌ {A = ℕ} 0 1 = cc in absurd (omega arith);
-      firsts = index_kept Unfitted x;
-      kept = kept_attempt w₁ x.kept;
+      firsts = index_kept x;
+      kept = kept_attempt x.kept;
     }
 
-    module _ (y : Measured) (x : Attempts j points l w w₁ index index₁ (Fitting y)) where
+    module _ {y : Measured} (x : Attempts j points l w w₁ index index₁ (Some y)) where
       abbrev f : Candidate
       f = candidate_in j points l w₁ index₁
 
@@ -168,20 +166,20 @@ module _ (j : Job) (points w : List Float) (index : List ℕ) (has : HasJob j po
 
       most_is : y.largest ≡ largest f.distances
       unfolding measured
-      most_is = ap (λ (m : Measured). m.largest) (x.measures y refl)
+      most_is = ap (λ (m : Measured). m.largest) x.measures
 
       test_is : largest_within t f.distances ≡ le y.largest t
       unfolding largest_within
       test_is = ap (λ (m : Float). le m t) (sym most_is)
 
-      pub turn-fits : le y.largest t ≡ true → Turns j points l t w w₁ index index₁ (Fits y)
+      pub turn-fits : le y.largest t ≡ true → Turns j points l t w w₁ index index₁ (Some (Fits y))
       unfolding turned
       turn-fits h = record {
         answer = round-within d t flat f fit_there (test_is ∙ h);
-        measures = λ m z. let u : y ≡ m = cc in sym u ∙ x.measures y refl;
+        measures = λ m z. let u : y ≡ m = cc in sym u ∙ x.measures;
         grows = λ k z. let u : ◌≡◌ {A = ℕ} 0 1 = cc in absurd (omega arith);
-        firsts = index_kept (Fitting y) x;
-        kept = kept_attempt w₁ x.kept;
+        firsts = index_kept x;
+        kept = kept_attempt x.kept;
       }
 
       abbrev firsts : List ℕ
@@ -206,10 +204,7 @@ module _ (j : Job) (points w : List Float) (index : List ℕ) (has : HasJob j po
         most = knots.most;
       }
 
-      pub turn-regions : RoundRegions (length firsts) j.params j.deviations j.flat j.fresh l j.table.degree (length w₁)
-      turn-regions = subst (λ (n : ℕ). RoundRegions n j.params j.deviations j.flat j.fresh l j.table.degree (length w₁)) (sym count_is) regions
-
-      abbrev splitting : ℕ → Option (List Float)
+      abbrev splitting : ℕ → Maybe (List Float)
       splitting n = refined_knots (part j.params (j.params + n) w₁) firsts (roots_of (part j.deviations (j.deviations + n) w₁)) y.largest t j.table.degree (part j.flat (j.flat + l) w₁)
 
       splitting_is : splitting j.table.count ≡ refined_knots d.params (table_on d flat).firsts (d.deviations f.distances) (largest f.distances) t d.degree flat
@@ -221,12 +216,12 @@ module _ (j : Job) (points w : List Float) (index : List ℕ) (has : HasJob j po
           kept-part j.table.values (j.deviations + j.table.count) w w₁ x.kept j.flat (j.flat + l) (omega arith) (omega (arith, knots.most, has.flat_in)) in
           ap (λ (v : List Float). refined_knots v firsts (roots_of (part j.deviations (j.deviations + j.table.count) w₁)) y.largest t j.table.degree (part j.flat (j.flat + l) w₁)) p
           ∙ ap (λ (v : List ℕ). refined_knots d.params v (roots_of (part j.deviations (j.deviations + j.table.count) w₁)) y.largest t j.table.degree (part j.flat (j.flat + l) w₁)) firsts_are
-          ∙ ap (λ (v : List Float). refined_knots d.params (table_on d flat).firsts v y.largest t j.table.degree (part j.flat (j.flat + l) w₁)) (x.deviations y refl)
+          ∙ ap (λ (v : List Float). refined_knots d.params (table_on d flat).firsts v y.largest t j.table.degree (part j.flat (j.flat + l) w₁)) x.deviations
           ∙ ap (λ (v : Float). refined_knots d.params (table_on d flat).firsts (d.deviations f.distances) v t j.table.degree (part j.flat (j.flat + l) w₁)) most_is
           ∙ ap (refined_knots d.params (table_on d flat).firsts (d.deviations f.distances) (largest f.distances) t j.table.degree) q
 
       -- a round of splitting on this fit
-      module _ (beyond : le y.largest t ≡ false) (w₂ : List Float) (ends : List ℕ) (put : ends ≡ span_ends firsts ++ drop (length (span_ends firsts)) firsts) (r : Round)
+      module _ (beyond : le y.largest t ≡ false) {w₂ : List Float} {ends : List ℕ} (put : ends ≡ span_ends firsts ++ drop (length (span_ends firsts)) firsts) {r : Round}
           (told : r ≡ round_of (splitting (length firsts)))
           (after : w₂ ≡ work_after (length firsts) j.params j.deviations j.flat j.fresh l j.table.degree t y.largest (span_ends firsts) w₁) where
         round_is : refinement_round d t (going flat) ≡ going_on (splitting j.table.count)
@@ -258,7 +253,7 @@ module _ (j : Job) (points w : List Float) (index : List ℕ) (has : HasJob j po
             }
 
         kept-turn : Kept j.flat last w w₂
-        kept-turn = kept_then j.flat last w w₁ w₂ (kept_attempt w₁ x.kept) kept_refine
+        kept-turn = kept_then j.flat last w w₁ w₂ (kept_attempt x.kept) kept_refine
 
         ends-long : length ends ≡ end - start
         ends-long =
@@ -267,10 +262,10 @@ module _ (j : Job) (points w : List Float) (index : List ℕ) (has : HasJob j po
 
         held-turn : Kept start end index (splice start end ends index₁)
         held-turn =
-            kept_then start end index index₁ (splice start end ends index₁) (index_kept (Fitting y) x)
-            (kept-splice start end ends index₁ (omega arith) (omega (arith, has.firsts_in, (index_kept (Fitting y) x).long)) ends-long)
+            kept_then start end index index₁ (splice start end ends index₁) (index_kept x)
+            (kept-splice start end ends index₁ (omega arith) (omega (arith, has.firsts_in, (index_kept x).long)) ends-long)
 
-        pub turn-stuck : r ≡ round.Stuck → Turns j points l t w w₂ index (splice start end ends index₁) Ended
+        pub turn-stuck : r ≡ round.Stuck → Turns j points l t w w₂ index (splice start end ends index₁) None
         unfolding turned going_on
         turn-stuck e = record {
           answer = round_is ∙ ap going_on (round-stuck (splitting j.table.count) (sym told' ∙ e));
@@ -280,9 +275,9 @@ module _ (j : Job) (points w : List Float) (index : List ℕ) (has : HasJob j po
           kept = kept-turn;
         }
 
-        pub turn-next : (k : ℕ) → r ≡ round.Refined k → Turns j points l t w w₂ index (splice start end ends index₁) (Next k)
+        pub turn-next : {k : ℕ} → r ≡ round.Refined k → Turns j points l t w w₂ index (splice start end ends index₁) (Some (Next k))
         unfolding turned going_on flat_region
-        turn-next k e =
+        turn-next {k} e =
             let got : Refines j.table.count j.params j.deviations j.flat j.fresh l j.table.degree k firsts t y.largest w₁ w₂ =
             refines j.table.count j.params j.deviations j.flat j.fresh l j.table.degree k firsts t y.largest w₁ w₂ r (sym count_is) regions told' after' e in
             record {
@@ -354,76 +349,67 @@ module _ (j : Job) (points : List Float) (t : Float) (w₀ : List Float) (index�
               ∙ enough_here (left l) j.table.count (bezier_knots j.table.degree) (omega arith) (omega (arith, has₀.under)) (omega (arith, has₀.under)) (omega (arith, has₀.under));
         }
 
-  module _ (w : List Float) (index : List ℕ) (l : ℕ) (v : Rounding w index l) (w' : List Float) (index' : List ℕ) (r : Turn) (x : Turns j points l t w w' index index' r) where
+  module _ {w : List Float} {index : List ℕ} {l : ℕ} (v : Rounding w index l) where
     direction-same : direction_of j points w index ≡ d₀
     direction-same = direction-kept j points w₀ w index₀ index (j.fresh + j.table.count) (j.table.firsts + j.table.count) v.first v.kept v.firsts
 
     abbrev more : ℕ
     more = j.table.count + j.table.degree + 1 - l
 
-    -- the rest, after this round
-    rest_is : goal ≡ refinement_rounds d₀ t more (turned r (candidate_in j points l w' index') (λ (k : ℕ). flat_region j k w'))
-    rest_is =
-        let z : left l ≡ suc more = omega (arith, v.knots.most) in
-        sym v.rest
-        ∙ ap (λ (n : ℕ). refinement_rounds d₀ t n (going (flat_region j l w))) z
-        ∙ rounds-suc d₀ t more (going (flat_region j l w))
-        ∙ ap (λ (e : Direction). refinement_rounds d₀ t more (refinement_round e t (going (flat_region j l w)))) (sym direction-same)
-        ∙ ap (refinement_rounds d₀ t more) x.answer
+    module _ {w' : List Float} {index' : List ℕ} where
+      -- the rest, after this round
+      rest_is : {r : Option Turn} → Turns j points l t w w' index index' r
+          → goal ≡ refinement_rounds d₀ t more (turned r (candidate_in j points l w' index') (λ (k : ℕ). flat_region j k w'))
+      rest_is x =
+          let z : left l ≡ suc more = omega (arith, v.knots.most) in
+          sym v.rest
+          ∙ ap (λ (n : ℕ). refinement_rounds d₀ t n (going (flat_region j l w))) z
+          ∙ rounds-suc d₀ t more (going (flat_region j l w))
+          ∙ ap (λ (e : Direction). refinement_rounds d₀ t more (refinement_round e t (going (flat_region j l w)))) (sym direction-same)
+          ∙ ap (refinement_rounds d₀ t more) x.answer
 
-    kept_all : Kept j.flat (j.fresh + j.table.count) w₀ w'
-    kept_all = kept_then j.flat (j.fresh + j.table.count) w₀ w w' v.kept x.kept
+      kept_all : {r : Option Turn} → Turns j points l t w w' index index' r → Kept j.flat (j.fresh + j.table.count) w₀ w'
+      kept_all x = kept_then j.flat (j.fresh + j.table.count) w₀ w w' v.kept x.kept
 
-    held_all : Kept j.table.firsts (j.table.firsts + j.table.count) index₀ index'
-    held_all = kept_then j.table.firsts (j.table.firsts + j.table.count) index₀ index index' v.firsts x.firsts
+      held_all : {r : Option Turn} → Turns j points l t w w' index index' r → Kept j.table.firsts (j.table.firsts + j.table.count) index₀ index'
+      held_all x = kept_then j.table.firsts (j.table.firsts + j.table.count) index₀ index index' v.firsts x.firsts
 
-    pub rounding_ended : r ≡ Ended → RefinesWithin j points t w₀ w' index₀ index' Missed
-    unfolding turned refined_in fit_in
-    rounding_ended e = record {
-      answer =
-          goal_is v.first
-          ∙ ap fit_in (rest_is ∙ ap (λ (u : Turn). refinement_rounds d₀ t more (turned u (candidate_in j points l w' index') (λ (k : ℕ). flat_region j k w'))) e ∙ rounds-stuck d₀ t more);
-      reaches = missed held_all kept_all;
-    }
+      pub rounding_ended : Turns j points l t w w' index index' None → RefinesWithin j points t w₀ w' index₀ index' None
+      unfolding turned refined_in fit_in
+      rounding_ended x = record { answer = goal_is v.first ∙ ap fit_in (rest_is x ∙ rounds-stuck d₀ t more); reaches = missed (held_all x) (kept_all x) }
 
-    pub rounding-fits : (y : Measured) → r ≡ Fits y → RefinesWithin j points t w₀ w' index₀ index' (Met l y)
-    unfolding turned refined_in fit_in
-    rounding-fits y e = record {
-      answer =
-          goal_is v.first
-          ∙ ap fit_in
-          (rest_is
-          ∙ ap (λ (u : Turn). refinement_rounds d₀ t more (turned u (candidate_in j points l w' index') (λ (k : ℕ). flat_region j k w'))) e
-          ∙ rounds-fitted d₀ t more (candidate_in j points l w' index'));
-      reaches = met v.knots (x.measures y e) held_all kept_all;
-    }
+      pub rounding-fits : {y : Measured} → Turns j points l t w w' index index' (Some (Fits y)) → RefinesWithin j points t w₀ w' index₀ index' (Some (record { flat = l; measured = y }))
+      unfolding turned refined_in fit_in
+      rounding-fits {y} x = record {
+        answer = goal_is v.first ∙ ap fit_in (rest_is x ∙ rounds-fitted d₀ t more (candidate_in j points l w' index'));
+        reaches = met _ v.knots (x.measures y refl) (held_all x) (kept_all x);
+      }
 
-    pub rounding-next : (k : ℕ) → r ≡ Next k → (l < k) × Rounding w' index' k
-    unfolding turned flat_region
-    rounding-next k e =
-        let g = x.grows k e in
-        let long : length (part j.flat (j.flat + k) w') ≡ k =
-        length_part j.flat (j.flat + k) w'
-        (omega (arith, g.1, x.kept.long, v.has.flat_in, v.has.values_in, v.has.band_in, v.has.poles_inside, v.has.curve_inside, v.has.deviations_in, v.has.fresh_in))
-        ∙ omega arith in (
-          g.0,
-          record {
-            first = v.first;
-            has = has_job-kept j points w w' index index' (j.fresh + j.table.count) (j.table.firsts + j.table.count) v.has x.kept x.firsts;
-            knots = record { least = omega (arith, g.0, v.knots.least); most = omega (arith, g.1) };
-            kept = kept_all;
-            firsts = held_all;
-            rest =
-                sym
-                (rest_is
-                ∙ ap (λ (u : Turn). refinement_rounds d₀ t more (turned u (candidate_in j points l w' index') (λ (i : ℕ). flat_region j i w'))) e
-                ∙ enough_here v.first more (left k) (part j.flat (j.flat + k) w') (omega (arith, g.0, v.knots.least)) (omega (arith, g.1)) (omega (arith, g.0, g.1)) (omega (arith, g.1)));
-          },
-        )
+      pub rounding-next : {k : ℕ} → Turns j points l t w w' index index' (Some (Next k)) → (l < k) × Rounding w' index' k
+      unfolding turned flat_region
+      rounding-next {k} x =
+          let g = x.grows k refl in
+          let long : length (part j.flat (j.flat + k) w') ≡ k =
+          length_part j.flat (j.flat + k) w'
+          (omega (arith, g.1, x.kept.long, v.has.flat_in, v.has.values_in, v.has.band_in, v.has.poles_inside, v.has.curve_inside, v.has.deviations_in, v.has.fresh_in))
+          ∙ omega arith in (
+            g.0,
+            record {
+              first = v.first;
+              has = has_job-kept j points w w' index index' (j.fresh + j.table.count) (j.table.firsts + j.table.count) v.has x.kept x.firsts;
+              knots = record { least = omega (arith, g.0, v.knots.least); most = omega (arith, g.1) };
+              kept = kept_all x;
+              firsts = held_all x;
+              rest =
+                  sym
+                  (rest_is x
+                  ∙ enough_here v.first more (left k) (part j.flat (j.flat + k) w') (omega (arith, g.0, v.knots.least)) (omega (arith, g.1)) (omega (arith, g.0, g.1)) (omega (arith, g.1)));
+            },
+          )
 
 -- ---- from the knots of a single piece, which are put there first
 
-module _ (j : Job) (points w : List Float) (index : List ℕ) (has : HasJob j points w index) (w₀ : List Float)
+module _ {j : Job} {points w : List Float} {index : List ℕ} (has : HasJob j points w index) {w₀ : List Float}
     (a : w₀ ≡ splice j.flat (j.flat + (j.table.degree + 1) + j.table.degree + 1) (bezier_knots j.table.degree) w) where
   abbrev few : ℕ
   few = 2 * j.table.degree + 2
@@ -445,8 +431,8 @@ module _ (j : Job) (points w : List Float) (index : List ℕ) (has : HasJob j po
       rounding-start j points t w₀ index (has_job_put j points w index has few (first-knots j has.under) w₀ piece size put)
       (flat_put j points w index has few (first-knots j has.under) w₀ piece size put)
 
-  pub loop_end : (t : Float) (w' : List Float) (index' : List ℕ) (r : Reached) → RefinesWithin j points t w₀ w' index index' r → RefinesWithin j points t w w' index index' r
-  loop_end t w' index' r x = record {
+  pub loop_end : {t : Float} {w' : List Float} {index' : List ℕ} {r : Option Reached} → RefinesWithin j points t w₀ w' index index' r → RefinesWithin j points t w w' index index' r
+  loop_end {t} x = record {
     answer = ap (λ (d : Direction). fit_with_refined_knots d t) (sym (direction_put j points w index has few (first-knots j has.under) w₀ piece size put)) ∙ x.answer;
     reaches =
         reaches_later x.reaches (kept_same j.table.firsts (j.table.firsts + j.table.count) index)

@@ -1,7 +1,7 @@
 // Refinement (`fit_with_refined_knots`): rounds of least squares and splitting, in the job's regions of the lent slices.
 ghost use Rattle.fitting.specs.Jobs.{HasJob, HasKnots, Turns, RefinesWithin};
 
-use crate::{Attempt, Job, Reached, Turn, attempts};
+use crate::{Job, Reached, Turn, attempts};
 use refinement::Round;
 
 // One round on the l flat knots that stand in the work.
@@ -12,35 +12,31 @@ fn turn(
     job: Job,
     l: usize,
     tolerance: f64,
-) -> Turn
+) -> Option<Turn>
     requires { HasJob job points.now work.old index.old × HasKnots job l }
     ensures { Turns job points.now l tolerance work.old work.new index.old index.new result }
 {
-    match attempts::attempt(work, index, points, job, l) {
-        Attempt::Unfitted => Turn::Ended,
-        Attempt::Fitting(m) => {
-            if m.largest <= tolerance {
-                return Turn::Fits(m);
-            }
-            let table = job.table;
-            let start = table.firsts;
-            let end = start + table.count;
-            match refinement::refine(
-                work,
-                &mut index[start..end],
-                job.params,
-                job.deviations,
-                job.flat,
-                job.fresh,
-                l,
-                table.degree,
-                tolerance,
-                m.largest,
-            ) {
-                Round::Stuck => Turn::Ended,
-                Round::Refined(k) => Turn::Next(k),
-            }
-        }
+    let m = attempts::attempt(work, index, points, job, l)?;
+    if m.largest <= tolerance {
+        return Some(Turn::Fits(m));
+    }
+    let table = job.table;
+    let start = table.firsts;
+    let end = start + table.count;
+    match refinement::refine(
+        work,
+        &mut index[start..end],
+        job.params,
+        job.deviations,
+        job.flat,
+        job.fresh,
+        l,
+        table.degree,
+        tolerance,
+        m.largest,
+    ) {
+        Round::Stuck => None,
+        Round::Refined(k) => Some(Turn::Next(k)),
     }
 }
 
@@ -51,23 +47,16 @@ pub fn fit_with_refined_knots(
     points: &[f64],
     job: Job,
     tolerance: f64,
-) -> Reached
+) -> Option<Reached>
     requires { HasJob job points.now work.old index.old }
     ensures { RefinesWithin job points.now tolerance work.old work.new index.old index.new result }
 {
     knots::clamped::bezier_knots(work, job.table.degree, job.flat);
     let mut l = 2 * job.table.degree + 2;
     loop {
-        match turn(work, index, points, job, l, tolerance) {
-            Turn::Ended => {
-                return Reached::Missed;
-            }
-            Turn::Fits(m) => {
-                return Reached::Met(l, m);
-            }
-            Turn::Next(k) => {
-                l = k;
-            }
+        match turn(work, index, points, job, l, tolerance)? {
+            Turn::Fits(measured) => return Some(Reached { flat: l, measured }),
+            Turn::Next(k) => l = k,
         }
     }
 }

@@ -1,35 +1,19 @@
 -- An attempt, then the test, then the splitting of spans: each case is the definition's round. Assumes nothing.
-use Rattle.fitting.proofs.RoundsLaws.{turn_unfitted, turn-fits, turn-regions, turn-stuck, turn-next}
+use Rattle.fitting.proofs.RoundsLaws.{turn_unfitted, turn-fits, turn-stuck, turn-next}
 use Rattle.fitting.proofs.refining.turn.Goals as goal
 
+pub returns-in_err-m : goal.returns-in_err-m
+returns-in_err-m c = rw c.from_residual.ensures (turn_unfitted c.requires.0 c.requires.1 _ c.in_err-m.ensures)
+
 pub returns-then-m-tolerance : goal.returns-then-m-tolerance
-returns-then-m-tolerance c =
-    let a = c.args in
-    let x = c.attempt in
-    turn-fits a.job a.points.now a.work.now a.index.now c.requires.0 a.l c.requires.1 a.tolerance x.new.work x.new.index c.in-Fitting.m (rw c.in-Fitting.is at x.ensures) c.if-m-tolerance.true
-
-pub refine-requires : goal.refine-requires
-refine-requires c =
-    let a = c.args in
-    let x = c.attempt in
-    turn-regions a.job a.points.now a.work.now a.index.now c.requires.0 a.l c.requires.1 a.tolerance x.new.work x.new.index c.in-Fitting.m (rw c.in-Fitting.is at x.ensures)
-
-pub returns-in-Unfitted : goal.returns-in-Unfitted
-returns-in-Unfitted c =
-    let a = c.args in
-    let x = c.attempt in
-    turn_unfitted a.job a.points.now a.work.now a.index.now c.requires.0 a.l c.requires.1 a.tolerance x.new.work x.new.index (rw c.in-Unfitted.is at x.ensures)
+returns-then-m-tolerance c = turn-fits c.requires.0 c.requires.1 _ c.in_ok-m.ensures c.if-m-tolerance.true
 
 pub returns-in-Stuck : goal.returns-in-Stuck
 returns-in-Stuck c =
-    let a = c.args in
-    let x = c.attempt in
-    let q = c.refine in
-    turn-stuck a.job a.points.now a.work.now a.index.now c.requires.0 a.l c.requires.1 a.tolerance x.new.work x.new.index c.in-Fitting.m (rw c.in-Fitting.is at x.ensures) c.if-m-tolerance.false q.new.work q.new.firsts q.ensures.firsts_after q.result q.ensures.value q.ensures.work_after c.in-Stuck.is
+    let q = c.refine.ensures in
+    turn-stuck c.requires.0 c.requires.1 _ c.in_ok-m.ensures c.if-m-tolerance.false q.firsts_after q.value q.work_after c.in-Stuck.is
 
 pub returns-in-Refined : goal.returns-in-Refined
 returns-in-Refined c =
-    let a = c.args in
-    let x = c.attempt in
-    let q = c.refine in
-    turn-next a.job a.points.now a.work.now a.index.now c.requires.0 a.l c.requires.1 a.tolerance x.new.work x.new.index c.in-Fitting.m (rw c.in-Fitting.is at x.ensures) c.if-m-tolerance.false q.new.work q.new.firsts q.ensures.firsts_after q.result q.ensures.value q.ensures.work_after c.in-Refined.k c.in-Refined.is
+    let q = c.refine.ensures in
+    turn-next c.requires.0 c.requires.1 _ c.in_ok-m.ensures c.if-m-tolerance.false q.firsts_after q.value q.work_after c.in-Refined.is
