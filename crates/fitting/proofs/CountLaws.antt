@@ -18,11 +18,11 @@ use Rattle.tables.specs.Deviations.{all_within, largest_within, unreadable}
 use Rattle.tables.specs.Directions.{Direction}
 use Rattle.tables.specs.Layout.{Kept}
 use Rattle.tables.specs.Measures.{measured}
-use Rattle.tables.proofs.KeptLaws.{kept_same, kept_then}
+use Rattle.tables.proofs.KeptLaws.{kept_then}
 use Rattle.tables.proofs.MeasureLaws.{ladder_square, ladder-rooted, ladder-held}
 use Rattle.search.specs.declared.Search.{Search}
-use Rattle.search.specs.Search.{start, next_of, fitted_at, failed_at, answer}
-use Rattle.search.proofs.SearchLaws.{Running, running-start, try-fitted, try_failed, running_done}
+use Rattle.search.specs.Search.{next_of, fitted_at, failed_at, answer}
+use Rattle.search.proofs.SearchLaws.{Running, try-fitted, try_failed, running_done}
 use Rattle.search.proofs.Fewest.{found}
 use Rattle.fitting.specs.declared.Job.{Job}
 use Rattle.fitting.specs.Within.{Marked, candidate, table_on, spread, fit_on_spread, candidate_passes, passes_on_spread, spread_or, found_or, fit_on_spread_knots}
@@ -94,9 +94,6 @@ pub record Searching (j : Job) (points : List Float) (tolerance : Float) (last :
   pub kept : Kept j.flat (j.deviations + j.table.count) w w₁
 
 module _ {j : Job} {points : List Float} {tolerance : Float} {last : ℕ} {w : List Float} {index : List ℕ} where
-  pub searching-start : j.table.degree < last → Searching j points tolerance last w index (start j.table.degree last) w index
-  searching-start h = record { running = running-start _ _ _ h; firsts = kept_same _ _ index; kept = kept_same _ _ w }
-
   module _ {s : Search} {w₁ : List Float} {index₁ : List ℕ} (going : Searching j points tolerance last w index s w₁ index₁) where
     pub searching_done : {r : Option ℕ} → None ≡ next_of s → r ≡ answer last s → FewestFound j points tolerance last w w₁ index index₁ r
     searching_done e a = record { answer = a ∙ running_done _ _ _ s (sym e) going.running; firsts = going.firsts; kept = going.kept }

@@ -31,11 +31,9 @@ use Rattle.refinement.proofs.SpanLaws.{spans-most}
 use Rattle.refinement.proofs.RoundLaws.{refined-grows, round-stuck}
 use Rattle.refinement.proofs.AfterLaws.{Refines, refines, after-length, after-take, after-part}
 use Rattle.fitting.specs.declared.Job.{Job}
-use Rattle.fitting.specs.declared.Turn.{Turn}
-use Rattle.fitting.specs.declared.Turn.TheVariants.{Fits, Next}
 use Rattle.fitting.specs.declared.Reached.{Reached}
 use Rattle.fitting.specs.Within.{Candidate, table_on, fit_on, Refining, going, fitted, stuck, going_on, judged, refinement_round, refinement_rounds, fit_in, fit_with_refined_knots}
-use Rattle.fitting.specs.Jobs.{direction_of, flat_region, candidate_in, attempted, turned, refined_in, HasJob, HasKnots, Attempts, Turns, RefinesWithin}
+use Rattle.fitting.specs.Jobs.{direction_of, flat_region, candidate_in, attempted, refined_in, HasJob, HasKnots, Attempts, RefinesWithin}
 use Rattle.fitting.proofs.AttemptLaws.{fills, params-long, has_job-kept, direction-kept, kept-knots, has_job_put, direction_put, flat_put, missed, met, reaches_later}
 
 -- ---- the rounds of a direction
@@ -119,6 +117,12 @@ module _ (d : Direction) (t : Float) where
 part-rest : (e n : ℕ) (l : List Float) → length l ≡ n → part e n l ≡ drop e l
 part-rest e n l h = take_all (n - e) (drop e l) (omega (arith, length-drop e l))
 
+-- what a round on the l flat knots that stand there comes to, and what it leaves
+pub record Turned (j : Job) (points : List Float) (l : ℕ) (t : Float) (w w' : List Float) (index index' : List ℕ) (s : Refining) : Type 0 where
+  pub answer : refinement_round (direction_of j points w index) t (going (flat_region j l w)) ≡ s
+  pub firsts : Kept j.table.firsts (j.table.firsts + j.table.count) index index'
+  pub kept : Kept j.flat (j.fresh + j.table.count) w w'
+
 module _ {j : Job} {points w : List Float} {index : List ℕ} (has : HasJob j points w index) {l : ℕ} (knots : HasKnots j l) (t : Float) where
   abbrev d : Direction
   d = direction_of j points w index
@@ -146,15 +150,9 @@ module _ {j : Job} {points w : List Float} {index : List ℕ} (has : HasJob j po
     index_kept : {r : Option Measured} → Attempts j points l w w₁ index index₁ r → Kept start end index index₁
     index_kept x = rw x.firsts (kept-splice start end (table_on d flat).firsts index (omega arith) has.firsts_in firsts-long)
 
-    pub turn_unfitted : Attempts j points l w w₁ index index₁ None → Turns j points l t w w₁ index index₁ None
-    unfolding attempted turned
-    turn_unfitted x = record {
-      answer = round_unfitted d t flat x.answer;
-      measures = λ y z. let u : ◌≡◌ {A = ℕ} 0 1 = cc in absurd (omega arith);
-      grows = λ k z. let u : ◌≡◌ {A = ℕ} 0 1 = cc in absurd (omega arith);
-      firsts = index_kept x;
-      kept = kept_attempt x.kept;
-    }
+    pub turn_unfitted : Attempts j points l w w₁ index index₁ None → Turned j points l t w w₁ index index₁ stuck
+    unfolding attempted
+    turn_unfitted x = record { answer = round_unfitted d t flat x.answer; firsts = index_kept x; kept = kept_attempt x.kept }
 
     module _ {y : Measured} (x : Attempts j points l w w₁ index index₁ (Some y)) where
       abbrev f : Candidate
@@ -172,15 +170,8 @@ module _ {j : Job} {points w : List Float} {index : List ℕ} (has : HasJob j po
       unfolding largest_within
       test_is = ap (λ (m : Float). le m t) (sym most_is)
 
-      pub turn-fits : le y.largest t ≡ true → Turns j points l t w w₁ index index₁ (Some (Fits y))
-      unfolding turned
-      turn-fits h = record {
-        answer = round-within d t flat f fit_there (test_is ∙ h);
-        measures = λ m z. let u : y ≡ m = cc in sym u ∙ x.measures;
-        grows = λ k z. let u : ◌≡◌ {A = ℕ} 0 1 = cc in absurd (omega arith);
-        firsts = index_kept x;
-        kept = kept_attempt x.kept;
-      }
+      pub turn-fits : le y.largest t ≡ true → Turned j points l t w w₁ index index₁ (fitted f)
+      turn-fits h = record { answer = round-within d t flat f fit_there (test_is ∙ h); firsts = index_kept x; kept = kept_attempt x.kept }
 
       abbrev firsts : List ℕ
       firsts = part start end index₁
@@ -265,28 +256,17 @@ module _ {j : Job} {points w : List Float} {index : List ℕ} (has : HasJob j po
             kept_then start end index index₁ (splice start end ends index₁) (index_kept x)
             (kept-splice start end ends index₁ (omega arith) (omega (arith, has.firsts_in, (index_kept x).long)) ends-long)
 
-        pub turn-stuck : r ≡ round.Stuck → Turns j points l t w w₂ index (splice start end ends index₁) None
-        unfolding turned going_on
-        turn-stuck e = record {
-          answer = round_is ∙ ap going_on (round-stuck (splitting j.table.count) (sym told' ∙ e));
-          measures = λ m z. let u : ◌≡◌ {A = ℕ} 0 1 = cc in absurd (omega arith);
-          grows = λ k z. let u : ◌≡◌ {A = ℕ} 0 1 = cc in absurd (omega arith);
-          firsts = held-turn;
-          kept = kept-turn;
-        }
+        pub turn-stuck : r ≡ round.Stuck → Turned j points l t w w₂ index (splice start end ends index₁) stuck
+        unfolding going_on
+        turn-stuck e = record { answer = round_is ∙ ap going_on (round-stuck (splitting j.table.count) (sym told' ∙ e)); firsts = held-turn; kept = kept-turn }
 
-        pub turn-next : {k : ℕ} → r ≡ round.Refined k → Turns j points l t w w₂ index (splice start end ends index₁) (Some (Next k))
-        unfolding turned going_on flat_region
+        pub turn-next : {k : ℕ} → r ≡ round.Refined k
+            → (l < k) × (k ≤ j.table.count + j.table.degree) × Turned j points l t w w₂ index (splice start end ends index₁) (going (flat_region j k w₂))
+        unfolding going_on flat_region
         turn-next {k} e =
             let got : Refines j.table.count j.params j.deviations j.flat j.fresh l j.table.degree k firsts t y.largest w₁ w₂ =
             refines j.table.count j.params j.deviations j.flat j.fresh l j.table.degree k firsts t y.largest w₁ w₂ r (sym count_is) regions told' after' e in
-            record {
-              answer = round_is ∙ ap going_on got.knots ∙ ap going (sym got.stands);
-              measures = λ m z. let u : ◌≡◌ {A = ℕ} 0 1 = cc in absurd (omega arith);
-              grows = λ n z. let u : k ≡ n = cc in (omega (arith, got.grows), omega (arith, got.few));
-              firsts = held-turn;
-              kept = kept-turn;
-            }
+            (got.grows, got.few, record { answer = round_is ∙ ap going_on got.knots ∙ ap going (sym got.stands); firsts = held-turn; kept = kept-turn })
 
 -- ---- the loop
 
@@ -358,8 +338,7 @@ module _ (j : Job) (points : List Float) (t : Float) (w₀ : List Float) (index�
 
     module _ {w' : List Float} {index' : List ℕ} where
       -- the rest, after this round
-      rest_is : {r : Option Turn} → Turns j points l t w w' index index' r
-          → goal ≡ refinement_rounds d₀ t more (turned r (candidate_in j points l w' index') (λ (k : ℕ). flat_region j k w'))
+      rest_is : {s : Refining} → Turned j points l t w w' index index' s → goal ≡ refinement_rounds d₀ t more s
       rest_is x =
           let z : left l ≡ suc more = omega (arith, v.knots.most) in
           sym v.rest
@@ -368,44 +347,42 @@ module _ (j : Job) (points : List Float) (t : Float) (w₀ : List Float) (index�
           ∙ ap (λ (e : Direction). refinement_rounds d₀ t more (refinement_round e t (going (flat_region j l w)))) (sym direction-same)
           ∙ ap (refinement_rounds d₀ t more) x.answer
 
-      kept_all : {r : Option Turn} → Turns j points l t w w' index index' r → Kept j.flat (j.fresh + j.table.count) w₀ w'
+      kept_all : {s : Refining} → Turned j points l t w w' index index' s → Kept j.flat (j.fresh + j.table.count) w₀ w'
       kept_all x = kept_then j.flat (j.fresh + j.table.count) w₀ w w' v.kept x.kept
 
-      held_all : {r : Option Turn} → Turns j points l t w w' index index' r → Kept j.table.firsts (j.table.firsts + j.table.count) index₀ index'
+      held_all : {s : Refining} → Turned j points l t w w' index index' s → Kept j.table.firsts (j.table.firsts + j.table.count) index₀ index'
       held_all x = kept_then j.table.firsts (j.table.firsts + j.table.count) index₀ index index' v.firsts x.firsts
 
-      pub rounding_ended : Turns j points l t w w' index index' None → RefinesWithin j points t w₀ w' index₀ index' None
-      unfolding turned refined_in fit_in
+      pub rounding_ended : Turned j points l t w w' index index' stuck → RefinesWithin j points t w₀ w' index₀ index' None
+      unfolding refined_in fit_in
       rounding_ended x = record { answer = goal_is v.first ∙ ap fit_in (rest_is x ∙ rounds-stuck d₀ t more); reaches = missed (held_all x) (kept_all x) }
 
-      pub rounding-fits : {y : Measured} → Turns j points l t w w' index index' (Some (Fits y)) → RefinesWithin j points t w₀ w' index₀ index' (Some (record { flat = l; measured = y }))
-      unfolding turned refined_in fit_in
-      rounding-fits {y} x = record {
+      pub rounding-fits : {y : Measured} → y ≡ measured (candidate_in j points l w' index').distances → Turned j points l t w w' index index' (fitted (candidate_in j points l w' index'))
+          → RefinesWithin j points t w₀ w' index₀ index' (Some (record { flat = l; measured = y }))
+      unfolding refined_in fit_in
+      rounding-fits m x = record {
         answer = goal_is v.first ∙ ap fit_in (rest_is x ∙ rounds-fitted d₀ t more (candidate_in j points l w' index'));
-        reaches = met _ v.knots (x.measures y refl) (held_all x) (kept_all x);
+        reaches = met _ v.knots m (held_all x) (kept_all x);
       }
 
-      pub rounding-next : {k : ℕ} → Turns j points l t w w' index index' (Some (Next k)) → (l < k) × Rounding w' index' k
-      unfolding turned flat_region
-      rounding-next {k} x =
-          let g = x.grows k refl in
+      pub rounding-next : {k : ℕ} → (l < k) × (k ≤ j.table.count + j.table.degree) × Turned j points l t w w' index index' (going (flat_region j k w')) → Rounding w' index' k
+      unfolding flat_region
+      rounding-next {k} (grows, few, x) =
           let long : length (part j.flat (j.flat + k) w') ≡ k =
           length_part j.flat (j.flat + k) w'
-          (omega (arith, g.1, x.kept.long, v.has.flat_in, v.has.values_in, v.has.band_in, v.has.poles_inside, v.has.curve_inside, v.has.deviations_in, v.has.fresh_in))
-          ∙ omega arith in (
-            g.0,
-            record {
-              first = v.first;
-              has = has_job-kept j points w w' index index' (j.fresh + j.table.count) (j.table.firsts + j.table.count) v.has x.kept x.firsts;
-              knots = record { least = omega (arith, g.0, v.knots.least); most = omega (arith, g.1) };
-              kept = kept_all x;
-              firsts = held_all x;
-              rest =
-                  sym
-                  (rest_is x
-                  ∙ enough_here v.first more (left k) (part j.flat (j.flat + k) w') (omega (arith, g.0, v.knots.least)) (omega (arith, g.1)) (omega (arith, g.0, g.1)) (omega (arith, g.1)));
-            },
-          )
+          (omega (arith, few, x.kept.long, v.has.flat_in, v.has.values_in, v.has.band_in, v.has.poles_inside, v.has.curve_inside, v.has.deviations_in, v.has.fresh_in))
+          ∙ omega arith in
+          record {
+            first = v.first;
+            has = has_job-kept j points w w' index index' (j.fresh + j.table.count) (j.table.firsts + j.table.count) v.has x.kept x.firsts;
+            knots = record { least = omega (arith, grows, v.knots.least); most = omega (arith, few) };
+            kept = kept_all x;
+            firsts = held_all x;
+            rest =
+                sym
+                (rest_is x
+                ∙ enough_here v.first more (left k) (part j.flat (j.flat + k) w') (omega (arith, grows, v.knots.least)) (omega (arith, few)) (omega (arith, grows, few)) (omega (arith, few)));
+          }
 
 -- ---- from the knots of a single piece, which are put there first
 

@@ -11,10 +11,8 @@ use Rattle.tables.specs.Measures.{measured}
 use Rattle.tables.specs.Directions.{Direction, transposed}
 use Rattle.search.specs.Search.{fewest}
 use Rattle.fitting.specs.declared.Job.{Job}
-use Rattle.fitting.specs.declared.Turn.{Turn}
-use Rattle.fitting.specs.declared.Turn.TheVariants.{Fits, Next}
 use Rattle.fitting.specs.declared.Reached.{Reached}
-use Rattle.fitting.specs.Within.{Candidate, Marked, spread, candidate, table_on, fit_on, fit_on_spread, fit_on_spread_knots, interpolate, Refining, going, fitted, stuck, refinement_round, fit_with_refined_knots, passes_on_spread}
+use Rattle.fitting.specs.Within.{Candidate, Marked, spread, candidate, table_on, fit_on, fit_on_spread, fit_on_spread_knots, interpolate, fit_with_refined_knots, passes_on_spread}
 
 -- By the kind of the data: each point's distance from a fit (for columns from the surface over the other direction's table v), each parameter's deviation,
 -- and the test of a fit on spread knots.
@@ -127,20 +125,6 @@ pub record PassesThrough (j : Job) (points w w' : List Float) (index index' : Li
   pub measures : r ≡ measured (interpolate (direction_of j points w index)).distances
   pub firsts : Kept j.table.firsts (j.table.firsts + j.table.count) index index'
   pub kept : Kept j.flat (j.deviations + j.table.count) w w'
-
--- what stands in the slices after one round of refinement on l flat knots
-unfoldable pub turned : Option Turn → Candidate → (ℕ → List Float) → Refining
-turned None f flat = stuck
-turned (Some (Fits x)) f flat = fitted f
-turned (Some (Next k)) f flat = going (flat k)
-
--- What one round of refinement on the l flat knots that stand there leaves: an end; or the round's fit with what its distances measure; or more flat knots.
-pub record Turns (j : Job) (points : List Float) (l : ℕ) (tolerance : Float) (w w' : List Float) (index index' : List ℕ) (r : Option Turn) : Type 0 where
-  pub answer : refinement_round (direction_of j points w index) tolerance (going (flat_region j l w)) ≡ turned r (candidate_in j points l w' index') (λ (k : ℕ). flat_region j k w')
-  pub measures : (x : Measured) → r ≡ Some (Fits x) → x ≡ measured (candidate_in j points l w' index').distances
-  pub grows : (k : ℕ) → r ≡ Some (Next k) → (l < k) × (k ≤ j.table.count + j.table.degree)
-  pub firsts : Kept j.table.firsts (j.table.firsts + j.table.count) index index'
-  pub kept : Kept j.flat (j.fresh + j.table.count) w w'
 
 -- What reaching for the tolerance leaves: where it was met, a fit stands there, with what its distances measure.
 pub record Reaches (j : Job) (points w w' : List Float) (index index' : List ℕ) (r : Option Reached) : Type 0 where

@@ -71,13 +71,6 @@ pub struct Job {
     pub fresh: usize,
 }
 
-// What a round of refinement that gave a fit comes to: it is within the tolerance, or there are so many flat knots for the next round.
-#[derive(Clone, Copy)]
-pub enum Turn {
-    Fits(Measured),
-    Next(usize),
-}
-
 // A fit that met the tolerance: on how many flat knots, and what its distances measure.
 #[derive(Clone, Copy)]
 pub struct Reached {

@@ -1,46 +1,12 @@
 // Refinement (`fit_with_refined_knots`): rounds of least squares and splitting, in the job's regions of the lent slices.
-ghost use Rattle.fitting.specs.Jobs.{HasJob, HasKnots, Turns, RefinesWithin};
+ghost use Rattle.fitting.specs.Jobs.{HasJob, RefinesWithin};
 
-use crate::{Job, Reached, Turn, attempts};
+use crate::attempts::attempt;
+use crate::{Job, Reached};
 use refinement::Round;
 
-// One round on the l flat knots that stand in the work.
-fn turn(
-    work: &mut [f64],
-    index: &mut [usize],
-    points: &[f64],
-    job: Job,
-    l: usize,
-    tolerance: f64,
-) -> Option<Turn>
-    requires { HasJob job points.now work.old index.old × HasKnots job l }
-    ensures { Turns job points.now l tolerance work.old work.new index.old index.new result }
-{
-    let m = attempts::attempt(work, index, points, job, l)?;
-    if m.largest <= tolerance {
-        return Some(Turn::Fits(m));
-    }
-    let table = job.table;
-    let start = table.firsts;
-    let end = start + table.count;
-    match refinement::refine(
-        work,
-        &mut index[start..end],
-        job.params,
-        job.deviations,
-        job.flat,
-        job.fresh,
-        l,
-        table.degree,
-        tolerance,
-        m.largest,
-    ) {
-        Round::Stuck => None,
-        Round::Refined(k) => Some(Turn::Next(k)),
-    }
-}
-
-// Refinement: from a single Bézier piece, rounds of least squares and splitting, until a fit's largest deviation is within the tolerance.
+// Refinement: from a single Bézier piece, rounds of least squares and splitting, until a fit's largest deviation is within the tolerance; none where a round
+// gives no fit or splits no span.
 pub fn fit_with_refined_knots(
     work: &mut [f64],
     index: &mut [usize],
@@ -51,12 +17,29 @@ pub fn fit_with_refined_knots(
     requires { HasJob job points.now work.old index.old }
     ensures { RefinesWithin job points.now tolerance work.old work.new index.old index.new result }
 {
-    knots::clamped::bezier_knots(work, job.table.degree, job.flat);
-    let mut l = 2 * job.table.degree + 2;
+    let table = job.table;
+    let end = table.firsts + table.count;
+    knots::clamped::bezier_knots(work, table.degree, job.flat);
+    let mut flat = 2 * table.degree + 2;
     loop {
-        match turn(work, index, points, job, l, tolerance)? {
-            Turn::Fits(measured) => return Some(Reached { flat: l, measured }),
-            Turn::Next(k) => l = k,
+        let measured = attempt(work, index, points, job, flat)?;
+        if measured.largest <= tolerance {
+            return Some(Reached { flat, measured });
+        }
+        match refinement::refine(
+            work,
+            &mut index[table.firsts..end],
+            job.params,
+            job.deviations,
+            job.flat,
+            job.fresh,
+            flat,
+            table.degree,
+            tolerance,
+            measured.largest,
+        ) {
+            Round::Stuck => return None,
+            Round::Refined(count) => flat = count,
         }
     }
 }

@@ -1,6 +1,7 @@
 -- Each turn of the loop is a round, which ends it or leaves more knots; so the rounds that are left always come to the definition's, and the knots left to add
 -- fall. Assumes nothing.
-use Rattle.fitting.proofs.RoundsLaws.{rounding_ended, rounding-fits, rounding-next, loop-start, loop_end}
+use native.Mathlib.Omega.{arith}
+use Rattle.fitting.proofs.RoundsLaws.{turn_unfitted, turn-fits, turn-stuck, turn-next, rounding_ended, rounding-fits, rounding-next, loop-start, loop_end}
 use Rattle.fitting.proofs.refining.fit_with_refined_knots.Goals as goal
 
 pub loop-measured-init : goal.loop-measured-init
@@ -8,11 +9,31 @@ loop-measured-init c = loop-start c.requires c.bezier_knots.ensures _
 
 pub returns-in_err-measured : goal.returns-in_err-measured
 returns-in_err-measured c =
-    rw c.from_residual.ensures (loop_end c.requires c.bezier_knots.ensures (rounding_ended _ _ _ _ _ c.loop-measured.invariant c.in_err-measured.ensures))
+    let v = c.loop-measured.invariant in
+    rw c.from_residual.ensures (loop_end c.requires c.bezier_knots.ensures (rounding_ended _ _ _ _ _ v (turn_unfitted v.has v.knots _ c.in_err-measured.ensures)))
 
-pub returns-in-Fits : goal.returns-in-Fits
-returns-in-Fits c =
-    loop_end c.requires c.bezier_knots.ensures (rounding-fits _ _ _ _ _ c.loop-measured.invariant (rw c.in-Fits.is at c.in_ok-measured.ensures))
+pub returns-then-measured-tolerance : goal.returns-then-measured-tolerance
+returns-then-measured-tolerance c =
+    let v = c.loop-measured.invariant in
+    loop_end c.requires c.bezier_knots.ensures
+    (rounding-fits _ _ _ _ _ v c.in_ok-measured.ensures.measures (turn-fits v.has v.knots _ c.in_ok-measured.ensures (cc)))
+
+pub returns-in-Stuck : goal.returns-in-Stuck
+returns-in-Stuck c =
+    let v = c.loop-measured.invariant in
+    let q = c.refine.ensures in
+    loop_end c.requires c.bezier_knots.ensures
+    (rounding_ended _ _ _ _ _ v (turn-stuck v.has v.knots _ c.in_ok-measured.ensures (cc) q.firsts_after q.value q.work_after c.in-Stuck.is))
+
+pub loop-measured-smaller : goal.loop-measured-smaller
+loop-measured-smaller c =
+    let v = c.loop-measured.invariant in
+    let q = c.refine.ensures in
+    let n = turn-next v.has v.knots _ c.in_ok-measured.ensures (cc) q.firsts_after q.value q.work_after c.in-Refined.is in
+    omega (arith, n.0, n.1)
 
 pub loop-measured-preserved : goal.loop-measured-preserved
-loop-measured-preserved c = (rounding-next _ _ _ _ _ c.loop-measured.invariant (rw c.in-Next.is at c.in_ok-measured.ensures)).1
+loop-measured-preserved c =
+    let v = c.loop-measured.invariant in
+    let q = c.refine.ensures in
+    rounding-next _ _ _ _ _ v (turn-next v.has v.knots _ c.in_ok-measured.ensures (cc) q.firsts_after q.value q.work_after c.in-Refined.is)
