@@ -16,7 +16,7 @@ ghost use Rattle.making.specs.Runs.{HasSaved, CopiesFit, FitCopied, Makes};
 
 use bspline::Refusal;
 use checks::{Aim, Call};
-use fitting::{Attempt, Job, Mark, Reached};
+use fitting::{Job, Mark, Reached};
 use tables::Measured;
 
 // A fit that stands in its job's regions: its mark, how many flat knots it has, and how many of its deviations are unreadable.
@@ -61,8 +61,8 @@ fn make_chosen(
         work.old work.new index.old index.new result }
 {
     match fitting::attempts::attempt_spread(work, index, points, job, count) {
-        Attempt::Unfitted => Made::Fails(Refusal::PoleCountMismatch),
-        Attempt::Fitting(m) => Made::Stands(Standing {
+        None => Made::Fails(Refusal::PoleCountMismatch),
+        Some(m) => Made::Stands(Standing {
             mark: Mark::Chosen(m.largest),
             flat: count + job.table.degree + 1,
             unreadable: m.unreadable,
@@ -84,11 +84,11 @@ fn make_spread(
 {
     let last = job.table.count;
     match fitting::counts::fit_on_spread_knots(work, index, points, job, tolerance, last) {
-        Reached::Missed => make_through(work, index, points, job),
-        Reached::Met(l, m) => Made::Stands(Standing {
-            mark: Mark::Spread(m.largest),
-            flat: l,
-            unreadable: m.unreadable,
+        None => make_through(work, index, points, job),
+        Some(Reached { flat, measured }) => Made::Stands(Standing {
+            mark: Mark::Spread(measured.largest),
+            flat,
+            unreadable: measured.unreadable,
         }),
     }
 }
@@ -106,11 +106,11 @@ fn make_within(
         work.old work.new index.old index.new result }
 {
     match fitting::refining::fit_with_refined_knots(work, index, points, job, tolerance) {
-        Reached::Missed => make_spread(work, index, points, job, tolerance),
-        Reached::Met(l, m) => Made::Stands(Standing {
-            mark: Mark::Refined(m.largest),
-            flat: l,
-            unreadable: m.unreadable,
+        None => make_spread(work, index, points, job, tolerance),
+        Some(Reached { flat, measured }) => Made::Stands(Standing {
+            mark: Mark::Refined(measured.largest),
+            flat,
+            unreadable: measured.unreadable,
         }),
     }
 }
@@ -153,7 +153,7 @@ fn make_fewer(
     let n = 3 * (job.given.lines * below);
     copy_fit(work, l, n, job.flat, job.poles, saved, saved + l);
     match fitting::counts::fit_on_spread_knots(work, index, points, job, tolerance, below) {
-        Reached::Missed => {
+        None => {
             copy_fit(work, l, n, saved, saved + l, job.flat, job.poles);
             Made::Stands(Standing {
                 mark: Mark::Refined(refined.largest),
@@ -161,10 +161,10 @@ fn make_fewer(
                 unreadable: refined.unreadable,
             })
         }
-        Reached::Met(k, m) => Made::Stands(Standing {
-            mark: Mark::Spread(m.largest),
-            flat: k,
-            unreadable: m.unreadable,
+        Some(Reached { flat, measured }) => Made::Stands(Standing {
+            mark: Mark::Spread(measured.largest),
+            flat,
+            unreadable: measured.unreadable,
         }),
     }
 }
@@ -183,8 +183,10 @@ fn make_fewest(
         work.old work.new index.old index.new result }
 {
     match fitting::refining::fit_with_refined_knots(work, index, points, job, tolerance) {
-        Reached::Missed => make_spread(work, index, points, job, tolerance),
-        Reached::Met(l, m) => make_fewer(work, index, points, job, tolerance, saved, l, m),
+        None => make_spread(work, index, points, job, tolerance),
+        Some(Reached { flat, measured }) => {
+            make_fewer(work, index, points, job, tolerance, saved, flat, measured)
+        }
     }
 }
 
