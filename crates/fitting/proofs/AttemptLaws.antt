@@ -10,6 +10,7 @@ use native.Mathlib.Nat.{mul-le-mul_right}
 use lib.Dec.{eqb}
 use lib.ListN.{length}
 use lib.Ieee.{Float}
+use Rattle.std.specs.Prelude.{Option, Some, None}
 use Rattle.places.specs.Regions.{part, splice}
 use Rattle.places.proofs.RegionLaws.{length_part, part-splice}
 use Rattle.geometry.specs.declared.Point.{Point}
@@ -29,10 +30,7 @@ use Rattle.solving.specs.Through.{HasInterpolation, Interpolated}
 use Rattle.tables.proofs.KeptLaws.{cond_same, above-one, all_data-same, data_wider, kept_same, kept-splice, kept_wider, kept_then, kept-part, kept_table, has-table-kept}
 use Rattle.tables.proofs.TableLaws.{length-firsts, length-values, table_filled, has_filled}
 use Rattle.fitting.specs.declared.Job.{Job}
-use Rattle.fitting.specs.declared.Attempt.{Attempt}
-use Rattle.fitting.specs.declared.Attempt.TheVariants.{Unfitted, Fitting}
 use Rattle.fitting.specs.declared.Reached.{Reached}
-use Rattle.fitting.specs.declared.Reached.TheVariants.{Missed, Met}
 use Rattle.fitting.specs.Within.{Candidate, candidate, candidate_of, pole_count, table_on, fit_on, fit_on_spread, interpolate}
 use Rattle.fitting.specs.Jobs.{distances_by, direction_of, flat_region, poles_in, candidate_in, distances_in, attempted, HasOther, HasJob, HasKnots, Measures, Attempts, AttemptsSpread, PassesThrough, Reaches}
 
@@ -297,23 +295,23 @@ module _ (j : Job) (points w : List Float) (index : List ℕ) (has : HasJob j po
         ∙ ap (λ (x : ℕ → ℕ → Point). candidate_of d flat (table_on d flat) (least_squares (table_on d flat) (pole_count t.degree flat) j.given.lines x)) same_data)
 
     pub unfitted : (w₂ : List Float) → Squared (least_squares (table_in t w₁ index₁) m j.given.lines (data_point j.given points w₁)) (3 * (j.given.lines * m)) j.band j.poles w₁ w₂ false
-        → Attempts j points l w w₂ index index₁ Unfitted
+        → Attempts j points l w w₂ index index₁ None
     unfolding attempted candidate_of direction_of flat_region
     unfitted w₂ s = record {
       answer = fit_is ∙ ap (candidate_of d flat (table_on d flat)) s.answer;
-      measures = λ x z. let y : ◌≡◌ {A = ℕ} 0 1 = cc in absurd (omega arith);
-      deviations = λ x z. let y : ◌≡◌ {A = ℕ} 0 1 = cc in absurd (omega arith);
+      measures = tt;
+      deviations = tt;
       firsts = e;
       kept = kept-poles w₂ s.kept;
     }
 
     pub fitting : (w₂ : List Float) → Squared (least_squares (table_in t w₁ index₁) m j.given.lines (data_point j.given points w₁)) (3 * (j.given.lines * m)) j.band j.poles w₁ w₂ true
-        → (w₃ : List Float) (y : Measured) → Measures j points m w₂ w₃ index₁ y → Attempts j points l w w₃ index index₁ (Fitting y)
+        → (w₃ : List Float) (y : Measured) → Measures j points m w₂ w₃ index₁ y → Attempts j points l w w₃ index index₁ (Some y)
     unfolding attempted candidate_of direction_of flat_region
     fitting w₂ s w₃ y g = record {
       answer = fit_is ∙ ap (candidate_of d flat (table_on d flat)) s.answer ∙ ap some (sym (candidate_is w₂ s.kept w₃ y g));
-      measures = λ x q. let u : y ≡ x = cc in sym u ∙ g.measures ∙ ap measured (sym (distances_are w₂ s.kept w₃ y g));
-      deviations = λ x q. deviations_are w₂ s.kept w₃ y g;
+      measures = g.measures ∙ ap measured (sym (distances_are w₂ s.kept w₃ y g));
+      deviations = deviations_are w₂ s.kept w₃ y g;
       firsts = e;
       kept = kept_all w₂ s.kept w₃ y g;
     }
@@ -461,7 +459,7 @@ module _ (j : Job) (points w : List Float) (index : List ℕ) (has : HasJob j po
   pub spread_attempt : HasJob j points wₖ index × HasKnots j (n + j.table.degree + 1)
   spread_attempt = (has_job_put j points w index has (n + j.table.degree + 1) some-knots wₖ spread_out size-spread put-spread, some-knots)
 
-  pub attempts-spread : (w' : List Float) (index' : List ℕ) (r : Attempt) → Attempts j points (n + j.table.degree + 1) wₖ w' index index' r
+  pub attempts-spread : (w' : List Float) (index' : List ℕ) (r : Option Measured) → Attempts j points (n + j.table.degree + 1) wₖ w' index index' r
       → AttemptsSpread j points n w w' index index' r
   unfolding fit_on_spread direction_of flat_region
   attempts-spread w' index' r x =
@@ -482,25 +480,15 @@ pub kept_to_fresh : {j : Job} {points w w₁ w₂ : List Float} {index : List �
 kept_to_fresh {j} {points} {w} {w₁} {w₂} {index} has k = kept_wider j.flat (j.deviations + j.table.count) j.flat (j.fresh + j.table.count) w₁ w₂ (omega arith) (omega (arith, has.deviations_in)) k
 
 module _ {j : Job} {points w w' : List Float} {index index' : List ℕ} where
-  pub missed : Kept j.table.firsts (j.table.firsts + j.table.count) index index' → Kept j.flat (j.fresh + j.table.count) w w' → Reaches j points w w' index index' Missed
-  missed e k = record {
-    measures = λ l x z. let u : ◌≡◌ {A = ℕ} 0 1 = cc in absurd (omega arith);
-    few = λ l x z. let u : ◌≡◌ {A = ℕ} 0 1 = cc in absurd (omega arith);
-    firsts = e;
-    kept = k;
-  }
+  pub missed : Kept j.table.firsts (j.table.firsts + j.table.count) index index' → Kept j.flat (j.fresh + j.table.count) w w' → Reaches j points w w' index index' None
+  missed e k = record { measures = tt; few = tt; firsts = e; kept = k }
 
-  pub met : {l : ℕ} {y : Measured} → HasKnots j l → y ≡ measured (candidate_in j points l w' index').distances → Kept j.table.firsts (j.table.firsts + j.table.count) index index'
-      → Kept j.flat (j.fresh + j.table.count) w w' → Reaches j points w w' index index' (Met l y)
-  met {l} {y} knots m e k = record {
-    measures = λ n x z. let a : l ≡ n = cc in let b : y ≡ x = cc in sym b ∙ m ∙ ap (λ (i : ℕ). measured (candidate_in j points i w' index').distances) a;
-    few = λ n x z. let a : l ≡ n = cc in subst (HasKnots j) a knots;
-    firsts = e;
-    kept = k;
-  }
+  pub met : (x : Reached) → HasKnots j x.flat → x.measured ≡ measured (candidate_in j points x.flat w' index').distances → Kept j.table.firsts (j.table.firsts + j.table.count) index index'
+      → Kept j.flat (j.fresh + j.table.count) w w' → Reaches j points w w' index index' (Some x)
+  met x knots m e k = record { measures = m; few = knots; firsts = e; kept = k }
 
   -- from slices that were changed before
-  pub reaches_later : {w₀ : List Float} {index₀ : List ℕ} {r : Reached} → Reaches j points w w' index index' r → Kept j.table.firsts (j.table.firsts + j.table.count) index₀ index
+  pub reaches_later : {w₀ : List Float} {index₀ : List ℕ} {r : Option Reached} → Reaches j points w w' index index' r → Kept j.table.firsts (j.table.firsts + j.table.count) index₀ index
       → Kept j.flat (j.fresh + j.table.count) w₀ w → Reaches j points w₀ w' index₀ index' r
   reaches_later {w₀} {index₀} {r} x e k =
       record { measures = x.measures; few = x.few; firsts = kept_then j.table.firsts (j.table.firsts + j.table.count) index₀ index index' e x.firsts; kept = kept_then j.flat (j.fresh + j.table.count) w₀ w w' k x.kept }

@@ -4,10 +4,10 @@ use mathlib.Core.Bool.{Bool, true, false}
 use mathlib.Core.List.{List}
 use Prim.Native.Nat.{ℕ, ◌+◌, ◌-◌, ◌≤◌, ◌<◌}
 use native.Mathlib.Omega.{arith}
-use lib.Dec.{eqb}
 use lib.ListN.{length}
 use lib.Ieee.{Float, le}
 use borrow.Author.Tests.{eq-eqb, ne_eqb}
+use Rattle.std.specs.Prelude.{Option, Some, None}
 use Rattle.places.specs.Places.{list_of}
 use Rattle.places.proofs.PlaceLaws.{length-list_of}
 use Rattle.places.proofs.RegionLaws.{length_part}
@@ -18,173 +18,146 @@ use Rattle.tables.specs.Deviations.{all_within, largest_within, unreadable}
 use Rattle.tables.specs.Directions.{Direction}
 use Rattle.tables.specs.Layout.{Kept}
 use Rattle.tables.specs.Measures.{measured}
-use Rattle.tables.proofs.KeptLaws.{kept_same, kept_then}
+use Rattle.tables.proofs.KeptLaws.{kept_then}
 use Rattle.tables.proofs.MeasureLaws.{ladder_square, ladder-rooted, ladder-held}
 use Rattle.search.specs.declared.Search.{Search}
-use Rattle.search.specs.declared.Found.{Found}
-use Rattle.search.specs.declared.Found.TheVariants.{At, Nothing}
-use Rattle.search.specs.declared.Next.TheVariants.{Try, Done}
-use Rattle.search.specs.Search.{start, next_of, fitted_at, failed_at, answer}
-use Rattle.search.proofs.SearchLaws.{Running, running-start, try-fitted, try_failed, running_done}
+use Rattle.search.specs.Search.{next_of, fitted_at, failed_at, answer}
+use Rattle.search.proofs.SearchLaws.{Running, try-fitted, try_failed, running_done}
 use Rattle.search.proofs.Fewest.{found}
 use Rattle.fitting.specs.declared.Job.{Job}
-use Rattle.fitting.specs.declared.Attempt.{Attempt}
-use Rattle.fitting.specs.declared.Attempt.TheVariants.{Unfitted, Fitting}
-use Rattle.fitting.specs.declared.Reached.TheVariants.{Missed, Met}
 use Rattle.fitting.specs.Within.{Marked, candidate, table_on, spread, fit_on_spread, candidate_passes, passes_on_spread, spread_or, found_or, fit_on_spread_knots}
 use Rattle.fitting.specs.Jobs.{distances_by, within_by, direction_of, flat_region, poles_in, candidate_in, attempted, HasJob, AttemptsSpread, Tested, FewestFound, spread_in, SpreadsBelow}
 use Rattle.fitting.proofs.AttemptLaws.{has_job-kept, direction-kept, kept_to_fresh, spread-knots, missed, met}
 use Rattle.fitting.proofs.DeviationLaws.{all-unread, all-largest}
 
 -- ---- one count's test, from what the attempt at it came to
-module _ (j : Job) (points : List Float) (tolerance : Float) (m : ℕ) (w w' : List Float) (index index' : List ℕ) (r : Attempt)
-    (x : AttemptsSpread j points m w w' index index' r) where
-  pub tested_unfitted : r ≡ Unfitted → Tested j points tolerance m w w' index index' false
+module _ {j : Job} {points : List Float} {m : ℕ} {w w' : List Float} {index index' : List ℕ} where
+  pub tested_unfitted : {tolerance : Float} → AttemptsSpread j points m w w' index index' None → Tested j points tolerance m w w' index index' false
   unfolding passes_on_spread candidate_passes attempted
-  tested_unfitted e =
-      record {
-        answer =
-            sym (ap (candidate_passes (direction_of j points w index) tolerance) (x.answer ∙ ap (λ (a : Attempt). attempted a (candidate_in j points (m + j.table.degree + 1) w' index')) e));
-        firsts = x.firsts;
-        kept = x.kept;
-      }
+  tested_unfitted {tolerance} x = record { answer = sym (ap (candidate_passes (direction_of j points w index) tolerance) x.answer); firsts = x.firsts; kept = x.kept }
 
-  -- by the direction's own test of the distances
-  tested_by : (y : Measured) → r ≡ Fitting y → (b : Bool) → b ≡ within_by j.given.kind tolerance (candidate_in j points (m + j.table.degree + 1) w' index').distances
-      → Tested j points tolerance m w w' index index' b
-  unfolding passes_on_spread candidate_passes attempted direction_of
-  tested_by y e b p =
-      record {
-        answer =
-            p
-            ∙ sym (ap (candidate_passes (direction_of j points w index) tolerance) (x.answer ∙ ap (λ (a : Attempt). attempted a (candidate_in j points (m + j.table.degree + 1) w' index')) e));
-        firsts = x.firsts;
-        kept = x.kept;
-      }
-
-  -- a ladder's, by the measures: its distances are roots, and there is one
-  module _ (has : HasJob j points w index) (z : j.given.kind ≡ 0) (y : Measured) (e : r ≡ Fitting y) where
+  module _ {y : Measured} (x : AttemptsSpread j points m w w' index index' (Some y)) where
     abbrev l : ℕ
     l = m + j.table.degree + 1
 
-    abbrev table : BasisTable
-    table = table_on (direction_of j points w' index') (flat_region j l w')
+    -- by the direction's own test of the distances
+    tested_by : {tolerance : Float} (b : Bool) → b ≡ within_by j.given.kind tolerance (candidate_in j points l w' index').distances → Tested j points tolerance m w w' index index' b
+    unfolding passes_on_spread candidate_passes attempted direction_of
+    tested_by {tolerance} b p = record { answer = p ∙ sym (ap (candidate_passes (direction_of j points w index) tolerance) x.answer); firsts = x.firsts; kept = x.kept }
 
-    abbrev squares : List Float
-    squares = list_of (parameter_count table) (ladder_square j.factor table (poles_in j l w') points)
+    -- a ladder's, by the measures: its distances are roots, and there is one
+    module _ (has : HasJob j points w index) (z : j.given.kind ≡ 0) where
+      abbrev table : BasisTable
+      table = table_on (direction_of j points w' index') (flat_region j l w')
 
-    distances-rooted : (candidate_in j points l w' index').distances ≡ roots_of squares
-    unfolding candidate_in candidate direction_of distances_by
-    distances-rooted = rw (eq-eqb _ _ z) (ladder-rooted _ _ _ points)
+      abbrev squares : List Float
+      squares = list_of (parameter_count table) (ladder_square j.factor table (poles_in j l w') points)
 
-    counted : parameter_count table ≡ j.table.count
-    unfolding basis_table direction_of
-    counted =
-        length-list_of _ _
-        ∙ length_part j.params (j.params + j.table.count) w' (omega (arith, x.kept.long, has.given.inside, has.params_in))
-        ∙ omega arith
+      distances-rooted : (candidate_in j points l w' index').distances ≡ roots_of squares
+      unfolding candidate_in candidate direction_of distances_by
+      distances-rooted = rw (eq-eqb _ _ z) (ladder-rooted _ _ _ points)
 
-    some_squares : 1 ≤ length squares
-    some_squares = omega (arith, length-list_of (parameter_count table) (ladder_square j.factor table (poles_in j l w') points), counted, has.under)
+      counted : parameter_count table ≡ j.table.count
+      unfolding basis_table direction_of
+      counted =
+          length-list_of _ _
+          ∙ length_part j.params (j.params + j.table.count) w' (omega (arith, x.kept.long, has.given.inside, has.params_in))
+          ∙ omega arith
 
-    pub tested-unread : (y.unreadable ≡ 0 → ⊥) → (b : Bool) → b ≡ eqb y.unreadable 0 → Tested j points tolerance m w w' index index' b
-    unfolding within_by measured
-    tested-unread u b p =
-        let told : y.unreadable ≡ unreadable (candidate_in j points l w' index').distances = ap (λ (v : Measured). v.unreadable) (x.measures y e) in
-        tested_by y e b (rw (eq-eqb _ _ z) (p ∙ ne_eqb y.unreadable 0 u ∙ sym (all-unread tolerance _ (λ v. u (told ∙ v)))))
+      some_squares : 1 ≤ length squares
+      some_squares = omega (arith, length-list_of (parameter_count table) (ladder_square j.factor table (poles_in j l w') points), counted, has.under)
 
-    pub tested-ladder : y.unreadable ≡ 0 → (b : Bool) → b ≡ le y.largest tolerance → Tested j points tolerance m w w' index index' b
-    unfolding within_by measured
-    tested-ladder u b p =
-        let told : y ≡ measured (roots_of squares) = x.measures y e ∙ ap measured distances-rooted in
-        let none : unreadable (roots_of squares) ≡ 0 = sym (ap (λ (v : Measured). v.unreadable) told) ∙ u in
-        tested_by y e b
-        (rw (eq-eqb _ _ z)
-        (p
-        ∙ ap (λ (v : Measured). le v.largest tolerance) told
-        ∙ all-largest tolerance squares (ladder-held j.factor table (poles_in j l w') points _) some_squares none
-        ∙ ap (all_within tolerance) (sym distances-rooted)))
+      pub tested-unread : {tolerance : Float} → (y.unreadable ≡ 0 → ⊥) → Tested j points tolerance m w w' index index' false
+      unfolding within_by measured
+      tested-unread {tolerance} u =
+          tested_by false (rw (eq-eqb _ _ z) (sym (all-unread tolerance _ (λ v. u (ap (λ (q : Measured). q.unreadable) x.measures ∙ v)))))
 
-  pub tested_grid : (j.given.kind ≡ 0 → ⊥) → (y : Measured) → r ≡ Fitting y → (b : Bool) → b ≡ le y.largest tolerance → Tested j points tolerance m w w' index index' b
-  unfolding within_by largest_within measured
-  tested_grid z y e b p = tested_by y e b (rw (ne_eqb _ _ z) (p ∙ ap (λ (v : Measured). le v.largest tolerance) (x.measures y e)))
+      pub tested-ladder : {tolerance : Float} → y.unreadable ≡ 0 → Tested j points tolerance m w w' index index' (le y.largest tolerance)
+      unfolding within_by measured
+      tested-ladder {tolerance} u =
+          let told : y ≡ measured (roots_of squares) = x.measures ∙ ap measured distances-rooted in
+          let none : unreadable (roots_of squares) ≡ 0 = sym (ap (λ (v : Measured). v.unreadable) told) ∙ u in
+          tested_by (le y.largest tolerance)
+          (rw (eq-eqb _ _ z)
+          (ap (λ (v : Measured). le v.largest tolerance) told
+          ∙ all-largest tolerance squares (ladder-held j.factor table (poles_in j l w') points _) some_squares none
+          ∙ ap (all_within tolerance) (sym distances-rooted)))
+
+    pub tested_grid : {tolerance : Float} → (j.given.kind ≡ 0 → ⊥) → Tested j points tolerance m w w' index index' (le y.largest tolerance)
+    unfolding within_by largest_within measured
+    tested_grid {tolerance} z = tested_by (le y.largest tolerance) (rw (ne_eqb _ _ z) (ap (λ (v : Measured). le v.largest tolerance) x.measures))
 
 -- ---- the search over such tests: what its loop keeps
-module _ (j : Job) (points : List Float) (tolerance : Float) (last : ℕ) (w : List Float) (index : List ℕ) where
-  pub record Searching (s : Search) (w₁ : List Float) (index₁ : List ℕ) : Type 0 where
-    pub running : Running (passes_on_spread (direction_of j points w index) tolerance) j.table.degree last s
-    pub firsts : Kept j.table.firsts (j.table.firsts + j.table.count) index index₁
-    pub kept : Kept j.flat (j.deviations + j.table.count) w w₁
+pub record Searching (j : Job) (points : List Float) (tolerance : Float) (last : ℕ) (w : List Float) (index : List ℕ) (s : Search) (w₁ : List Float) (index₁ : List ℕ) : Type 0 where
+  pub running : Running (passes_on_spread (direction_of j points w index) tolerance) j.table.degree last s
+  pub firsts : Kept j.table.firsts (j.table.firsts + j.table.count) index index₁
+  pub kept : Kept j.flat (j.deviations + j.table.count) w w₁
 
-  pub searching-start : j.table.degree < last → Searching (start j.table.degree last) w index
-  searching-start h = record { running = running-start _ _ _ h; firsts = kept_same _ _ index; kept = kept_same _ _ w }
+module _ {j : Job} {points : List Float} {tolerance : Float} {last : ℕ} {w : List Float} {index : List ℕ} where
+  module _ {s : Search} {w₁ : List Float} {index₁ : List ℕ} (going : Searching j points tolerance last w index s w₁ index₁) where
+    pub searching_done : {r : Option ℕ} → None ≡ next_of s → r ≡ answer last s → FewestFound j points tolerance last w w₁ index index₁ r
+    searching_done e a = record { answer = a ∙ running_done _ _ _ s (sym e) going.running; firsts = going.firsts; kept = going.kept }
 
-  module _ (has : HasJob j points w index) (s : Search) (w₁ : List Float) (index₁ : List ℕ) (going : Searching s w₁ index₁) where
-    pub has_searching : HasJob j points w₁ index₁
-    has_searching = has_job-kept j points w w₁ index index₁ (j.deviations + j.table.count) (j.table.firsts + j.table.count) has going.kept going.firsts
+    module _ (has : HasJob j points w index) where
+      pub has_searching : HasJob j points w₁ index₁
+      has_searching = has_job-kept j points w w₁ index index₁ (j.deviations + j.table.count) (j.table.firsts + j.table.count) has going.kept going.firsts
 
-    pub searching_done : next_of s ≡ Done → (r : Found) → r ≡ answer last s → FewestFound j points tolerance last w w₁ index index₁ r
-    searching_done e r a = record { answer = a ∙ running_done _ _ _ s e going.running; firsts = going.firsts; kept = going.kept }
+      module _ {m : ℕ} (told : Some m ≡ next_of s) {w₂ : List Float} {index₂ : List ℕ} {b : Bool} (x : Tested j points tolerance m w₁ w₂ index₁ index₂ b) where
+        -- the try tested the direction that the search is about
+        same_test : passes_on_spread (direction_of j points w index) tolerance m ≡ b
+        same_test =
+            sym
+            (x.answer
+            ∙ ap (λ (d : Direction). passes_on_spread d tolerance m) (direction-kept j points w w₁ index index₁ (j.deviations + j.table.count) (j.table.firsts + j.table.count) has going.kept going.firsts))
 
-    module _ (m : ℕ) (told : next_of s ≡ Try m) (w₂ : List Float) (index₂ : List ℕ) (b : Bool) (x : Tested j points tolerance m w₁ w₂ index₁ index₂ b) where
-      -- the try tested the direction that the search is about
-      same_test : passes_on_spread (direction_of j points w index) tolerance m ≡ b
-      same_test =
-          sym (x.answer ∙ ap (λ (d : Direction). passes_on_spread d tolerance m) (direction-kept j points w w₁ index index₁ (j.deviations + j.table.count) (j.table.firsts + j.table.count) has going.kept going.firsts))
+        searched : {t : Search} → Running (passes_on_spread (direction_of j points w index) tolerance) j.table.degree last t → Searching j points tolerance last w index t w₂ index₂
+        searched r = record { running = r; firsts = kept_then _ _ index index₁ index₂ going.firsts x.firsts; kept = kept_then _ _ w w₁ w₂ going.kept x.kept }
 
-      kept_twice : Kept j.flat (j.deviations + j.table.count) w w₂
-      kept_twice = kept_then _ _ w w₁ w₂ going.kept x.kept
+        pub searching-fitted : b ≡ true → Searching j points tolerance last w index (fitted_at s m) w₂ index₂
+        searching-fitted e = searched (try-fitted _ _ _ s m (sym told) (same_test ∙ e) going.running)
 
-      pub searching-fitted : b ≡ true → Searching (fitted_at s m) w₂ index₂
-      searching-fitted e =
-          record { running = try-fitted _ _ _ s m told (same_test ∙ e) going.running; firsts = kept_then _ _ index index₁ index₂ going.firsts x.firsts; kept = kept_twice }
-
-      pub searching_failed : b ≡ false → Searching (failed_at s m) w₂ index₂
-      searching_failed e =
-          record { running = try_failed _ _ _ s m told (same_test ∙ e) going.running; firsts = kept_then _ _ index index₁ index₂ going.firsts x.firsts; kept = kept_twice }
+        pub searching_failed : b ≡ false → Searching j points tolerance last w index (failed_at s m) w₂ index₂
+        searching_failed e = searched (try_failed _ _ _ s m (sym told) (same_test ∙ e) going.running)
 
 -- ---- the search, and then the fit of the count that it found
-module _ (j : Job) (points : List Float) (tolerance : Float) (last : ℕ) (w w' : List Float) (index index' : List ℕ) (has : HasJob j points w index)
-    (r : Found) (x : FewestFound j points tolerance last w w' index index' r) where
-  pub has-found : HasJob j points w' index'
-  has-found = has_job-kept j points w w' index index' (j.deviations + j.table.count) (j.table.firsts + j.table.count) has x.kept x.firsts
-
-  pub found_between : (m : ℕ) → r ≡ At m → last ≤ j.table.count → (j.table.degree < m) × (m ≤ j.table.count)
-  found_between m e h = let f = found _ _ _ m (sym x.answer ∙ e) in (f.above, omega (arith, f.below))
-
-  pub spread-nothing : r ≡ Nothing → SpreadsBelow j points tolerance last w w' index index' Missed
+module _ {j : Job} {points : List Float} {tolerance : Float} {last : ℕ} {w w' : List Float} {index index' : List ℕ} (has : HasJob j points w index) where
+  pub spread-none : FewestFound j points tolerance last w w' index index' None → SpreadsBelow j points tolerance last w w' index index' None
   unfolding fit_on_spread_knots found_or spread_in direction_of
-  spread-nothing e = record {
-    answer = λ other. ap (found_or (direction_of j points w index) other) (sym x.answer ∙ e);
+  spread-none x = record {
+    answer = λ other. ap (found_or (direction_of j points w index) other) (sym x.answer);
     reaches = missed x.firsts (kept_to_fresh has x.kept);
   }
 
-  module _ (m : ℕ) (e : r ≡ At m) (most : last ≤ j.table.count) (w'' : List Float) (index'' : List ℕ) (a : Attempt) (y : AttemptsSpread j points m w' w'' index' index'' a) where
-    -- the fit that the definition takes is the one that was tried
-    spread_is : (other : Marked) → fit_on_spread_knots (direction_of j points w index) tolerance last other ≡ spread_or other m (attempted a (candidate_in j points (m + j.table.degree + 1) w'' index''))
-    unfolding fit_on_spread_knots found_or direction_of
-    spread_is other =
-        ap (found_or (direction_of j points w index) other) (sym x.answer ∙ e)
-        ∙ ap (λ (d : Direction). spread_or other m (fit_on_spread d m)) (sym (direction-kept j points w w' index index' (j.deviations + j.table.count) (j.table.firsts + j.table.count) has x.kept x.firsts))
-        ∙ ap (spread_or other m) y.answer
+  module _ {m : ℕ} (x : FewestFound j points tolerance last w w' index index' (Some m)) (most : last ≤ j.table.count) where
+    pub has-found : HasJob j points w' index'
+    has-found = has_job-kept j points w w' index index' (j.deviations + j.table.count) (j.table.firsts + j.table.count) has x.kept x.firsts
 
-    kept-found : Kept j.flat (j.fresh + j.table.count) w w''
-    kept-found = kept_to_fresh has (kept_then _ _ w w' w'' x.kept y.kept)
+    pub found_between : (j.table.degree < m) × (m ≤ j.table.count)
+    found_between = let f = found _ _ _ m (sym x.answer) in (f.above, omega (arith, f.below))
 
-    pub spread_unfitted : a ≡ Unfitted → SpreadsBelow j points tolerance last w w'' index index'' Missed
-    unfolding attempted spread_or spread_in
-    spread_unfitted u = record {
-      answer = λ other. spread_is other ∙ ap (λ (b : Attempt). spread_or other m (attempted b (candidate_in j points (m + j.table.degree + 1) w'' index''))) u;
-      reaches = missed (kept_then _ _ index index' index'' x.firsts y.firsts) kept-found;
-    }
+    module _ {w'' : List Float} {index'' : List ℕ} where
+      -- the fit that the definition takes is the one that was tried
+      spread_is : (a : Option Measured) → AttemptsSpread j points m w' w'' index' index'' a → (other : Marked)
+          → fit_on_spread_knots (direction_of j points w index) tolerance last other ≡ spread_or other m (attempted a (candidate_in j points (m + j.table.degree + 1) w'' index''))
+      unfolding fit_on_spread_knots found_or direction_of
+      spread_is a y other =
+          ap (found_or (direction_of j points w index) other) (sym x.answer)
+          ∙ ap (λ (d : Direction). spread_or other m (fit_on_spread d m)) (sym (direction-kept j points w w' index index' (j.deviations + j.table.count) (j.table.firsts + j.table.count) has x.kept x.firsts))
+          ∙ ap (spread_or other m) y.answer
 
-    pub spread_fitting : (z : Measured) → a ≡ Fitting z → SpreadsBelow j points tolerance last w w'' index index'' (Met (m + j.table.degree + 1) z)
-    unfolding attempted spread_or spread_in
-    spread_fitting z u = record {
-      answer = λ other.
-          let n : m ≡ m + j.table.degree + 1 - j.table.degree - 1 = omega arith in
-          spread_is other
-          ∙ ap (λ (b : Attempt). spread_or other m (attempted b (candidate_in j points (m + j.table.degree + 1) w'' index''))) u
-          ∙ ap (λ (k : ℕ). spread k (candidate_in j points (m + j.table.degree + 1) w'' index'')) n;
-      reaches = met (spread-knots j m (found_between m e most).0 (found_between m e most).1) (y.measures z u) (kept_then _ _ index index' index'' x.firsts y.firsts) kept-found;
-    }
+      kept-found : {a : Option Measured} → AttemptsSpread j points m w' w'' index' index'' a → Kept j.flat (j.fresh + j.table.count) w w''
+      kept-found y = kept_to_fresh has (kept_then _ _ w w' w'' x.kept y.kept)
+
+      pub spread_unfitted : AttemptsSpread j points m w' w'' index' index'' None → SpreadsBelow j points tolerance last w w'' index index'' None
+      unfolding attempted spread_or spread_in
+      spread_unfitted y = record { answer = spread_is None y; reaches = missed (kept_then _ _ index index' index'' x.firsts y.firsts) (kept-found y) }
+
+      pub spread-fit : {z : Measured} → AttemptsSpread j points m w' w'' index' index'' (Some z)
+          → SpreadsBelow j points tolerance last w w'' index index'' (Some (record { flat = m + j.table.degree + 1; measured = z }))
+      unfolding attempted spread_or spread_in
+      spread-fit {z} y = record {
+        answer = λ other.
+            let n : m ≡ m + j.table.degree + 1 - j.table.degree - 1 = omega arith in
+            spread_is (Some z) y other ∙ ap (λ (k : ℕ). spread k (candidate_in j points (m + j.table.degree + 1) w'' index'')) n;
+        reaches = met _ (spread-knots j m found_between.0 found_between.1) y.measures (kept_then _ _ index index' index'' x.firsts y.firsts) (kept-found y);
+      }

@@ -1,40 +1,27 @@
 -- Measuring a fit that stands in its job's regions, by the kind of its data. Assumes nothing.
-use mathlib.Core.Path.{◌≡◌, refl, sym, ◌∙◌, ap, subst}
+use mathlib.Core.Path.{◌≡◌, refl, sym, ◌∙◌, ap}
 use mathlib.Core.List.{List}
 use Prim.Native.Nat.{ℕ, ◌+◌, ◌*◌, ◌≤◌}
 use native.Mathlib.Omega.{arith}
-use lib.ListN.{length}
 use lib.Ieee.{Float}
 use borrow.Author.Tests.{eq-eqb, ne_eqb}
 use Rattle.places.specs.Regions.{part}
 use Rattle.tables.specs.declared.Measured.{Measured}
 use Rattle.tables.specs.Deviations.{ladder_distances, row_distances, point_deviations, largest_over_rows, largest_over_columns}
-use Rattle.tables.specs.Layout.{table_in, HasTable, HasFit}
-use Rattle.tables.specs.Measures.{measured, HasGrid, LeavesSquares, grid_distances_in}
+use Rattle.tables.specs.Layout.{table_in, HasTable}
+use Rattle.tables.specs.Measures.{measured, LeavesSquares, grid_distances_in}
 use Rattle.tables.proofs.KeptLaws.{kept_wider}
 use Rattle.fitting.specs.declared.Job.{Job}
 use Rattle.fitting.specs.Jobs.{direction_of, distances_by, deviations_by, distances_in, HasJob, Measures}
-use Rattle.fitting.proofs.AttemptLaws.{lines_fewer}
 
-module _ (j : Job) (points w : List Float) (index : List ℕ) (has : HasJob j points w index) (m : ℕ) (table : HasTable j.table m w index) (few : m ≤ j.table.count) where
+module _ {j : Job} {points w : List Float} {index : List ℕ} (has : HasJob j points w index) {m : ℕ} (table : HasTable j.table m w index) (few : m ≤ j.table.count) where
   abbrev placed : List Float
   placed = part j.poles (j.poles + 3 * (j.given.lines * m)) w
-
-  measures-fit : HasFit j.table j.given.lines m j.poles j.deviations j.table.count w index
-  measures-fit = record {
-    table = table;
-    values_before = omega (arith, has.values_in, has.band_in, has.poles_inside, has.curve_inside);
-    poles_before = omega (arith, lines_fewer j m few, has.poles_inside, has.curve_inside);
-    room = omega (arith, has.deviations_in, has.fresh_in);
-  }
 
   -- a ladder's
   module _ (e : j.given.kind ≡ 0) where
     one : j.given.lines ≡ 1
     one = (has.given.ladder e).0
-
-    pub ladder_requires : HasFit j.table 1 m j.poles j.deviations j.table.count w index × (3 * j.table.count ≤ length points)
-    ladder_requires = (subst (λ (n : ℕ). HasFit j.table n m j.poles j.deviations j.table.count w index) one measures-fit, (has.given.ladder e).1)
 
     abbrev ladder_ones : List Float
     ladder_ones = ladder_distances j.factor (table_in j.table w index) (part j.poles (j.poles + 3 * m) w) points
@@ -45,9 +32,9 @@ module _ (j : Job) (points w : List Float) (index : List ℕ) (has : HasJob j po
         let z : 3 * (j.given.lines * m) ≡ 3 * m = rw one (omega arith) in
         rw (eq-eqb _ _ e) (ap (λ (n : ℕ). ladder_distances j.factor (table_in j.table w index) (part j.poles (j.poles + n) w) points) z)
 
-    pub measures-ladder : (w' : List Float) (r : Measured) → LeavesSquares j.table.count j.deviations j.deviations point_deviations ladder_ones w w' r → Measures j points m w w' index r
+    pub measures-ladder : {w' : List Float} {r : Measured} → LeavesSquares j.table.count j.deviations j.deviations point_deviations ladder_ones w w' r → Measures j points m w w' index r
     unfolding direction_of deviations_by
-    measures-ladder w' r x = record {
+    measures-ladder {w'} {r} x = record {
       measures = x.measures ∙ ap measured (sym ladder-distances);
       deviations = rw (eq-eqb _ _ e) (x.deviations ∙ sym ladder-distances);
       kept = kept_wider j.deviations (j.deviations + j.table.count) j.curve (j.deviations + j.table.count) w w' has.curve_inside (omega arith) x.kept;
@@ -55,9 +42,6 @@ module _ (j : Job) (points w : List Float) (index : List ℕ) (has : HasJob j po
 
   -- a grid's rows
   module _ (e : j.given.kind ≡ 1) where
-    pub rows_requires : HasFit j.table j.given.lines m j.poles j.deviations j.table.count w index × (3 * (j.given.lines * j.table.count) ≤ length points)
-    rows_requires = let d = has.given.rows e in (measures-fit, subst (λ (n : ℕ). 3 * (j.given.lines * n) ≤ length points) d.0 d.1)
-
     abbrev row_ones : List Float
     row_ones = row_distances j.factor j.given.lines (table_in j.table w index) m placed points
 
@@ -65,11 +49,11 @@ module _ (j : Job) (points w : List Float) (index : List ℕ) (has : HasJob j po
     unfolding direction_of distances_by
     row-distances = rw (ne_eqb j.given.kind 0 (λ z. omega arith), eq-eqb _ _ e) refl
 
-    pub measures-rows : (w' : List Float) (r : Measured)
+    pub measures-rows : {w' : List Float} {r : Measured}
         → LeavesSquares j.table.count j.deviations j.deviations (largest_over_rows j.given.lines j.table.count) row_ones w w' r
         → Measures j points m w w' index r
     unfolding direction_of deviations_by
-    measures-rows w' r x = record {
+    measures-rows {w'} {r} x = record {
       measures = x.measures ∙ ap measured (sym row-distances);
       deviations = rw (ne_eqb j.given.kind 0 (λ z. omega arith), eq-eqb _ _ e) (x.deviations ∙ ap (largest_over_rows j.given.lines j.table.count) (sym row-distances));
       kept = kept_wider j.deviations (j.deviations + j.table.count) j.curve (j.deviations + j.table.count) w w' has.curve_inside (omega arith) x.kept;
@@ -80,32 +64,15 @@ module _ (j : Job) (points w : List Float) (index : List ℕ) (has : HasJob j po
   is-columns e f = omega (arith, has.given.kinds)
 
   module _ (e : j.given.kind ≡ 2) where
-    pub columns_require : HasGrid j.table j.other j.given.lines m j.poles j.curve j.deviations points w index
-    columns_require =
-        let o = has.other e in
-        record {
-          fit =
-              record {
-                table = table;
-                values_before = omega (arith, has.values_in, has.band_in, has.poles_inside);
-                poles_before = omega (arith, lines_fewer j m few, has.poles_inside);
-                room = omega (arith, o.behind, has.deviations_in, has.fresh_in);
-              };
-          across = o.table;
-          across_before = omega (arith, o.values_in, has.flat_in, has.values_in, has.band_in, has.poles_inside);
-          behind = o.behind;
-          given = o.points_in;
-        }
-
     column-distances : distances_in j points m w index ≡ grid_distances_in j.factor j.table j.other j.given.lines m j.poles points w index
     unfolding direction_of distances_by
     column-distances = rw (ne_eqb j.given.kind 0 (λ z. omega arith), ne_eqb j.given.kind 1 (λ z. omega arith)) refl
 
-    pub measures-columns : (w' : List Float) (r : Measured)
+    pub measures-columns : {w' : List Float} {r : Measured}
         → LeavesSquares j.table.count j.curve j.deviations (largest_over_columns j.table.count j.other.count) (grid_distances_in j.factor j.table j.other j.given.lines m j.poles points w index) w w' r
         → Measures j points m w w' index r
     unfolding direction_of deviations_by
-    measures-columns w' r x = record {
+    measures-columns {w'} {r} x = record {
       measures = x.measures ∙ ap measured (sym column-distances);
       deviations =
           rw (ne_eqb j.given.kind 0 (λ z. omega arith), ne_eqb j.given.kind 1 (λ z. omega arith))

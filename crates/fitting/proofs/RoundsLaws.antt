@@ -1,18 +1,19 @@
 -- Refinement in a job's regions: one round, that rounds which are enough for the parameters are enough, and the loop over them. Assumes nothing.
-use Rattle.std.specs.Prelude as prelude
 use mathlib.Core.Path.{◌≡◌, refl, sym, ◌∙◌, ap}
 use mathlib.Core.Bool.{Bool, true, false, cond}
 use mathlib.Core.List.{List}
-use mathlib.Core.Option.{Option, none, some}
+use mathlib.Core.Option.{Option as Maybe, none, some}
 use Prim.Native.Nat.{ℕ, zero, suc, ◌+◌, ◌-◌, ◌*◌, ◌≤◌, ◌<◌}
 use native.Mathlib.Omega.{arith}
 use lib.ListN.{length}
 use lib.Ieee.{Float, le}
+use Rattle.std.specs.Prelude.{Option, Some, None}
 use Rattle.places.specs.Regions.{part, splice}
 use Rattle.places.proofs.RegionLaws.{length_part, part-splice}
 use Rattle.geometry.specs.Doubles.{largest}
 use Rattle.knots.specs.Knots.{bezier_knots}
 use Rattle.knots.proofs.KnotLaws.{length_bezier}
+use Rattle.geometry.specs.Root.{roots_of}
 use Rattle.tables.specs.declared.Measured.{Measured}
 use Rattle.tables.specs.Deviations.{largest_within}
 use Rattle.tables.specs.Directions.{Direction}
@@ -23,14 +24,9 @@ use Rattle.tables.proofs.TableLaws.{length-firsts}
 use Rattle.refinement.specs.Refinement.{refined_knots}
 use Rattle.refinement.proofs.RoundLaws.{refined-grows}
 use Rattle.fitting.specs.declared.Job.{Job}
-use Rattle.fitting.specs.declared.Attempt.{Attempt}
-use Rattle.fitting.specs.declared.Attempt.TheVariants.{Unfitted, Fitting}
-use Rattle.fitting.specs.declared.Turn.{Turn}
-use Rattle.fitting.specs.declared.Turn.TheVariants.{Ended, Fits, Next}
 use Rattle.fitting.specs.declared.Reached.{Reached}
-use Rattle.fitting.specs.declared.Reached.TheVariants.{Missed, Met}
 use Rattle.fitting.specs.Within.{Candidate, table_on, fit_on, Refining, going, fitted, stuck, going_on, judged, refinement_round, refinement_rounds, fit_in, fit_with_refined_knots}
-use Rattle.fitting.specs.Jobs.{direction_of, flat_region, candidate_in, attempted, turned, refined_in, HasJob, HasKnots, Attempts, Turns, RefinesWithin}
+use Rattle.fitting.specs.Jobs.{direction_of, flat_region, candidate_in, attempted, refined_in, HasJob, HasKnots, Attempts, RefinesWithin}
 use Rattle.fitting.specs.Splits.{HasSplits, next_knots, next_in, Splits}
 use Rattle.fitting.proofs.AttemptLaws.{fills, params-long, has_job-kept, direction-kept, kept-knots, has_job_put, direction_put, flat_put, missed, met, reaches_later}
 
@@ -57,7 +53,7 @@ module _ (d : Direction) (t : Float) where
   unfolding refinement_round judged going_on
   round-grows flat all h e = by-fit (fit_on d flat) e
     where
-      by_next : (f : Candidate) (o : Option (List Float)) → refined_knots d.params (table_on d flat).firsts (d.deviations f.distances) (largest f.distances) t d.degree flat ≡ o
+      by_next : (f : Candidate) (o : Maybe (List Float)) → refined_knots d.params (table_on d flat).firsts (d.deviations f.distances) (largest f.distances) t d.degree flat ≡ o
           → going_on o ≡ going all → (length flat < length all) × (length all ≤ length d.params + d.degree)
       by_next f none q r = let z : ◌≡◌ {A = ℕ} 0 1 = cc in absurd (omega arith)
       by_next f (some x) q r =
@@ -70,7 +66,7 @@ module _ (d : Direction) (t : Float) where
       by_test true f r = let z : ◌≡◌ {A = ℕ} 0 1 = cc in absurd (omega arith)
       by_test false f r = by_next f (refined_knots d.params (table_on d flat).firsts (d.deviations f.distances) (largest f.distances) t d.degree flat) refl r
 
-      by-fit : (o : Option Candidate) → judged d t flat o ≡ going all → (length flat < length all) × (length all ≤ length d.params + d.degree)
+      by-fit : (o : Maybe Candidate) → judged d t flat o ≡ going all → (length flat < length all) × (length all ≤ length d.params + d.degree)
       by-fit none r = let z : ◌≡◌ {A = ℕ} 0 1 = cc in absurd (omega arith)
       by-fit (some f) r = by_test (largest_within t f.distances) f r
 
@@ -111,7 +107,13 @@ module _ (d : Direction) (t : Float) where
 
 -- ---- one round in the job's regions
 
-module _ (j : Job) (points w : List Float) (index : List ℕ) (has : HasJob j points w index) (l : ℕ) (knots : HasKnots j l) (t : Float) where
+-- what a round on the l flat knots that stand there comes to, and what it leaves
+pub record Turned (j : Job) (points : List Float) (l : ℕ) (t : Float) (w w' : List Float) (index index' : List ℕ) (s : Refining) : Type 0 where
+  pub answer : refinement_round (direction_of j points w index) t (going (flat_region j l w)) ≡ s
+  pub firsts : Kept j.table.firsts (j.table.firsts + j.table.count) index index'
+  pub kept : Kept j.flat (j.fresh + j.table.count) w w'
+
+module _ {j : Job} {points w : List Float} {index : List ℕ} (has : HasJob j points w index) {l : ℕ} (knots : HasKnots j l) (t : Float) where
   abbrev d : Direction
   d = direction_of j points w index
 
@@ -121,34 +123,28 @@ module _ (j : Job) (points w : List Float) (index : List ℕ) (has : HasJob j po
   abbrev last : ℕ
   last = j.fresh + j.table.count
 
-  kept_attempt : (w₁ : List Float) → Kept j.table.values (j.deviations + j.table.count) w w₁ → Kept j.flat last w w₁
-  kept_attempt w₁ x = kept_wider j.table.values (j.deviations + j.table.count) j.flat last w w₁ (omega (arith, has.flat_in)) (omega (arith, has.deviations_in)) x
+  abbrev start : ℕ
+  start = j.table.firsts
 
-  module _ (w₁ : List Float) (index₁ : List ℕ) where
-    abbrev start : ℕ
-    start = j.table.firsts
+  abbrev end : ℕ
+  end = j.table.firsts + j.table.count
 
-    abbrev end : ℕ
-    end = j.table.firsts + j.table.count
+  firsts-long : length (table_on d flat).firsts ≡ end - start
+  unfolding direction_of flat_region
+  firsts-long = length-firsts j.table j.flat (j.flat + l) j.params w w index index (fills j points w index has l knots) ∙ omega arith
 
-    firsts-long : length (table_on d flat).firsts ≡ end - start
-    unfolding direction_of flat_region
-    firsts-long = length-firsts j.table j.flat (j.flat + l) j.params w w index index (fills j points w index has l knots) ∙ omega arith
+  kept_attempt : {w₁ : List Float} → Kept j.table.values (j.deviations + j.table.count) w w₁ → Kept j.flat last w w₁
+  kept_attempt {w₁} x = kept_wider j.table.values (j.deviations + j.table.count) j.flat last w w₁ (omega (arith, has.flat_in)) (omega (arith, has.deviations_in)) x
 
-    pub index_kept : (r : Attempt) → Attempts j points l w w₁ index index₁ r → Kept start end index index₁
-    index_kept r x = rw x.firsts (kept-splice start end (table_on d flat).firsts index (omega arith) has.firsts_in firsts-long)
+  module _ {w₁ : List Float} {index₁ : List ℕ} where
+    index_kept : {r : Option Measured} → Attempts j points l w w₁ index index₁ r → Kept start end index index₁
+    index_kept x = rw x.firsts (kept-splice start end (table_on d flat).firsts index (omega arith) has.firsts_in firsts-long)
 
-    pub turn_unfitted : Attempts j points l w w₁ index index₁ Unfitted → Turns j points l t w w₁ index index₁ Ended
-    unfolding attempted turned
-    turn_unfitted x = record {
-      answer = round_unfitted d t flat x.answer;
-      measures = λ y z. let u : ◌≡◌ {A = ℕ} 0 1 = cc in absurd (omega arith);
-      grows = λ k z. let u : ◌≡◌ {A = ℕ} 0 1 = cc in absurd (omega arith);
-      firsts = index_kept Unfitted x;
-      kept = kept_attempt w₁ x.kept;
-    }
+    pub turn_unfitted : Attempts j points l w w₁ index index₁ None → Turned j points l t w w₁ index index₁ stuck
+    unfolding attempted
+    turn_unfitted x = record { answer = round_unfitted d t flat x.answer; firsts = index_kept x; kept = kept_attempt x.kept }
 
-    module _ (y : Measured) (x : Attempts j points l w w₁ index index₁ (Fitting y)) where
+    module _ {y : Measured} (x : Attempts j points l w w₁ index index₁ (Some y)) where
       abbrev f : Candidate
       f = candidate_in j points l w₁ index₁
 
@@ -158,21 +154,14 @@ module _ (j : Job) (points w : List Float) (index : List ℕ) (has : HasJob j po
 
       most_is : y.largest ≡ largest f.distances
       unfolding measured
-      most_is = ap (λ (m : Measured). m.largest) (x.measures y refl)
+      most_is = ap (λ (m : Measured). m.largest) x.measures
 
       test_is : largest_within t f.distances ≡ le y.largest t
       unfolding largest_within
       test_is = ap (λ (m : Float). le m t) (sym most_is)
 
-      pub turn-fits : le y.largest t ≡ true → Turns j points l t w w₁ index index₁ (Fits y)
-      unfolding turned
-      turn-fits h = record {
-        answer = round-within d t flat f fit_there (test_is ∙ h);
-        measures = λ m z. let u : y ≡ m = cc in sym u ∙ x.measures y refl;
-        grows = λ k z. let u : ◌≡◌ {A = ℕ} 0 1 = cc in absurd (omega arith);
-        firsts = index_kept (Fitting y) x;
-        kept = kept_attempt w₁ x.kept;
-      }
+      pub turn-fits : le y.largest t ≡ true → Turned j points l t w w₁ index index₁ (fitted f)
+      turn-fits h = record { answer = round-within d t flat f fit_there (test_is ∙ h); firsts = index_kept x; kept = kept_attempt x.kept }
 
       abbrev firsts : List ℕ
       firsts = part start end index₁
@@ -201,40 +190,31 @@ module _ (j : Job) (points w : List Float) (index : List ℕ) (has : HasJob j po
           kept-part j.table.values (j.deviations + j.table.count) w w₁ x.kept j.params (j.params + j.table.count) (omega arith) (omega (arith, has.params_in, has.flat_in)) in
           let q : part j.flat (j.flat + l) w₁ ≡ flat =
           kept-part j.table.values (j.deviations + j.table.count) w w₁ x.kept j.flat (j.flat + l) (omega arith) (omega (arith, knots.most, has.flat_in)) in
-          rw (p, firsts_are, x.deviations y refl, most_is, q)
+          rw (p, firsts_are, x.deviations, most_is, q)
 
       -- a round of splitting on this fit
-      module _ (beyond : le y.largest t ≡ false) (w₂ : List Float) (ends : List ℕ) (same : length ends ≡ length firsts) (r : prelude.Option ℕ) (z : Splits j l y.largest t firsts w₁ w₂ r) where
+      module _ (beyond : le y.largest t ≡ false) {w₂ : List Float} {ends : List ℕ} (same : length ends ≡ length firsts) {r : Option ℕ} (z : Splits j l y.largest t firsts w₁ w₂ r) where
         round_is : refinement_round d t (going flat) ≡ going_on (next_in j r w₂)
         round_is = round_beyond d t flat f fit_there (test_is ∙ beyond) ∙ ap going_on (sym next_is ∙ z.answer)
 
         kept-turn : Kept j.flat last w w₂
-        kept-turn = kept_then j.flat last w w₁ w₂ (kept_attempt w₁ x.kept) z.kept
+        kept-turn = kept_then j.flat last w w₁ w₂ (kept_attempt x.kept) z.kept
 
         held-turn : Kept start end index (splice start end ends index₁)
         held-turn =
-            kept_then start end index index₁ (splice start end ends index₁) (index_kept (Fitting y) x)
-            (kept-splice start end ends index₁ (omega arith) (omega (arith, has.firsts_in, (index_kept (Fitting y) x).long)) (same ∙ count_is ∙ omega arith))
+            kept_then start end index index₁ (splice start end ends index₁) (index_kept x)
+            (kept-splice start end ends index₁ (omega arith) (omega (arith, has.firsts_in, (index_kept x).long)) (same ∙ count_is ∙ omega arith))
 
-        pub turn-stuck : r ≡ prelude.None → Turns j points l t w w₂ index (splice start end ends index₁) Ended
-        unfolding turned going_on next_in
-        turn-stuck e = record {
-          answer = round_is ∙ ap (λ (o : prelude.Option ℕ). going_on (next_in j o w₂)) e;
-          measures = λ m u. let v : ◌≡◌ {A = ℕ} 0 1 = cc in absurd (omega arith);
-          grows = λ k u. let v : ◌≡◌ {A = ℕ} 0 1 = cc in absurd (omega arith);
-          firsts = held-turn;
-          kept = kept-turn;
-        }
+        pub turn-stuck : r ≡ None → Turned j points l t w w₂ index (splice start end ends index₁) stuck
+        unfolding going_on next_in
+        turn-stuck e = record { answer = round_is ∙ ap (λ (o : Option ℕ). going_on (next_in j o w₂)) e; firsts = held-turn; kept = kept-turn }
 
-        pub turn-next : (k : ℕ) → r ≡ prelude.Some k → Turns j points l t w w₂ index (splice start end ends index₁) (Next k)
-        unfolding turned going_on next_in flat_region
-        turn-next k e = record {
-          answer = round_is ∙ ap (λ (o : prelude.Option ℕ). going_on (next_in j o w₂)) e;
-          measures = λ m u. let v : ◌≡◌ {A = ℕ} 0 1 = cc in absurd (omega arith);
-          grows = λ n u. let v : k ≡ n = cc in rw v at (z.grows k e);
-          firsts = held-turn;
-          kept = kept-turn;
-        }
+        pub turn-next : {k : ℕ} → r ≡ Some k
+            → (l < k) × (k ≤ j.table.count + j.table.degree) × Turned j points l t w w₂ index (splice start end ends index₁) (going (flat_region j k w₂))
+        unfolding going_on next_in flat_region
+        turn-next {k} e =
+            let g = z.grows k e in
+            (g.0, g.1, record { answer = round_is ∙ ap (λ (o : Option ℕ). going_on (next_in j o w₂)) e; firsts = held-turn; kept = kept-turn })
 
 -- ---- the loop
 
@@ -297,76 +277,64 @@ module _ (j : Job) (points : List Float) (t : Float) (w₀ : List Float) (index�
               ∙ enough_here (left l) j.table.count (bezier_knots j.table.degree) (omega arith) (omega (arith, has₀.under)) (omega (arith, has₀.under)) (omega (arith, has₀.under));
         }
 
-  module _ (w : List Float) (index : List ℕ) (l : ℕ) (v : Rounding w index l) (w' : List Float) (index' : List ℕ) (r : Turn) (x : Turns j points l t w w' index index' r) where
+  module _ {w : List Float} {index : List ℕ} {l : ℕ} (v : Rounding w index l) where
     direction-same : direction_of j points w index ≡ d₀
     direction-same = direction-kept j points w₀ w index₀ index (j.fresh + j.table.count) (j.table.firsts + j.table.count) v.first v.kept v.firsts
 
     abbrev more : ℕ
     more = j.table.count + j.table.degree + 1 - l
 
-    -- the rest, after this round
-    rest_is : goal ≡ refinement_rounds d₀ t more (turned r (candidate_in j points l w' index') (λ (k : ℕ). flat_region j k w'))
-    rest_is =
-        let z : left l ≡ suc more = omega (arith, v.knots.most) in
-        sym v.rest
-        ∙ ap (λ (n : ℕ). refinement_rounds d₀ t n (going (flat_region j l w))) z
-        ∙ rounds-suc d₀ t more (going (flat_region j l w))
-        ∙ ap (λ (e : Direction). refinement_rounds d₀ t more (refinement_round e t (going (flat_region j l w)))) (sym direction-same)
-        ∙ ap (refinement_rounds d₀ t more) x.answer
+    module _ {w' : List Float} {index' : List ℕ} where
+      -- the rest, after this round
+      rest_is : {s : Refining} → Turned j points l t w w' index index' s → goal ≡ refinement_rounds d₀ t more s
+      rest_is x =
+          let z : left l ≡ suc more = omega (arith, v.knots.most) in
+          sym v.rest
+          ∙ ap (λ (n : ℕ). refinement_rounds d₀ t n (going (flat_region j l w))) z
+          ∙ rounds-suc d₀ t more (going (flat_region j l w))
+          ∙ ap (λ (e : Direction). refinement_rounds d₀ t more (refinement_round e t (going (flat_region j l w)))) (sym direction-same)
+          ∙ ap (refinement_rounds d₀ t more) x.answer
 
-    kept_all : Kept j.flat (j.fresh + j.table.count) w₀ w'
-    kept_all = kept_then j.flat (j.fresh + j.table.count) w₀ w w' v.kept x.kept
+      kept_all : {s : Refining} → Turned j points l t w w' index index' s → Kept j.flat (j.fresh + j.table.count) w₀ w'
+      kept_all x = kept_then j.flat (j.fresh + j.table.count) w₀ w w' v.kept x.kept
 
-    held_all : Kept j.table.firsts (j.table.firsts + j.table.count) index₀ index'
-    held_all = kept_then j.table.firsts (j.table.firsts + j.table.count) index₀ index index' v.firsts x.firsts
+      held_all : {s : Refining} → Turned j points l t w w' index index' s → Kept j.table.firsts (j.table.firsts + j.table.count) index₀ index'
+      held_all x = kept_then j.table.firsts (j.table.firsts + j.table.count) index₀ index index' v.firsts x.firsts
 
-    pub rounding_ended : r ≡ Ended → RefinesWithin j points t w₀ w' index₀ index' Missed
-    unfolding turned refined_in fit_in
-    rounding_ended e = record {
-      answer =
-          goal_is v.first
-          ∙ ap fit_in (rest_is ∙ ap (λ (u : Turn). refinement_rounds d₀ t more (turned u (candidate_in j points l w' index') (λ (k : ℕ). flat_region j k w'))) e ∙ rounds-stuck d₀ t more);
-      reaches = missed held_all kept_all;
-    }
+      pub rounding_ended : Turned j points l t w w' index index' stuck → RefinesWithin j points t w₀ w' index₀ index' None
+      unfolding refined_in fit_in
+      rounding_ended x = record { answer = goal_is v.first ∙ ap fit_in (rest_is x ∙ rounds-stuck d₀ t more); reaches = missed (held_all x) (kept_all x) }
 
-    pub rounding-fits : (y : Measured) → r ≡ Fits y → RefinesWithin j points t w₀ w' index₀ index' (Met l y)
-    unfolding turned refined_in fit_in
-    rounding-fits y e = record {
-      answer =
-          goal_is v.first
-          ∙ ap fit_in
-          (rest_is
-          ∙ ap (λ (u : Turn). refinement_rounds d₀ t more (turned u (candidate_in j points l w' index') (λ (k : ℕ). flat_region j k w'))) e
-          ∙ rounds-fitted d₀ t more (candidate_in j points l w' index'));
-      reaches = met v.knots (x.measures y e) held_all kept_all;
-    }
+      pub rounding-fits : {y : Measured} → y ≡ measured (candidate_in j points l w' index').distances → Turned j points l t w w' index index' (fitted (candidate_in j points l w' index'))
+          → RefinesWithin j points t w₀ w' index₀ index' (Some (record { flat = l; measured = y }))
+      unfolding refined_in fit_in
+      rounding-fits m x = record {
+        answer = goal_is v.first ∙ ap fit_in (rest_is x ∙ rounds-fitted d₀ t more (candidate_in j points l w' index'));
+        reaches = met _ v.knots m (held_all x) (kept_all x);
+      }
 
-    pub rounding-next : (k : ℕ) → r ≡ Next k → (l < k) × Rounding w' index' k
-    unfolding turned flat_region
-    rounding-next k e =
-        let g = x.grows k e in
-        let long : length (part j.flat (j.flat + k) w') ≡ k =
-        length_part j.flat (j.flat + k) w'
-        (omega (arith, g.1, x.kept.long, v.has.flat_in, v.has.values_in, v.has.band_in, v.has.poles_inside, v.has.curve_inside, v.has.deviations_in, v.has.fresh_in))
-        ∙ omega arith in (
-          g.0,
+      pub rounding-next : {k : ℕ} → (l < k) × (k ≤ j.table.count + j.table.degree) × Turned j points l t w w' index index' (going (flat_region j k w')) → Rounding w' index' k
+      unfolding flat_region
+      rounding-next {k} (grows, few, x) =
+          let long : length (part j.flat (j.flat + k) w') ≡ k =
+          length_part j.flat (j.flat + k) w'
+          (omega (arith, few, x.kept.long, v.has.flat_in, v.has.values_in, v.has.band_in, v.has.poles_inside, v.has.curve_inside, v.has.deviations_in, v.has.fresh_in))
+          ∙ omega arith in
           record {
             first = v.first;
             has = has_job-kept j points w w' index index' (j.fresh + j.table.count) (j.table.firsts + j.table.count) v.has x.kept x.firsts;
-            knots = record { least = omega (arith, g.0, v.knots.least); most = omega (arith, g.1) };
-            kept = kept_all;
-            firsts = held_all;
+            knots = record { least = omega (arith, grows, v.knots.least); most = omega (arith, few) };
+            kept = kept_all x;
+            firsts = held_all x;
             rest =
                 sym
-                (rest_is
-                ∙ ap (λ (u : Turn). refinement_rounds d₀ t more (turned u (candidate_in j points l w' index') (λ (i : ℕ). flat_region j i w'))) e
-                ∙ enough_here v.first more (left k) (part j.flat (j.flat + k) w') (omega (arith, g.0, v.knots.least)) (omega (arith, g.1)) (omega (arith, g.0, g.1)) (omega (arith, g.1)));
-          },
-        )
+                (rest_is x
+                ∙ enough_here v.first more (left k) (part j.flat (j.flat + k) w') (omega (arith, grows, v.knots.least)) (omega (arith, few)) (omega (arith, grows, few)) (omega (arith, few)));
+          }
 
 -- ---- from the knots of a single piece, which are put there first
 
-module _ (j : Job) (points w : List Float) (index : List ℕ) (has : HasJob j points w index) (w₀ : List Float)
+module _ {j : Job} {points w : List Float} {index : List ℕ} (has : HasJob j points w index) {w₀ : List Float}
     (a : w₀ ≡ splice j.flat (j.flat + (j.table.degree + 1) + j.table.degree + 1) (bezier_knots j.table.degree) w) where
   abbrev few : ℕ
   few = 2 * j.table.degree + 2
@@ -388,8 +356,8 @@ module _ (j : Job) (points w : List Float) (index : List ℕ) (has : HasJob j po
       rounding-start j points t w₀ index (has_job_put j points w index has few (first-knots j has.under) w₀ piece size put)
       (flat_put j points w index has few (first-knots j has.under) w₀ piece size put)
 
-  pub loop_end : (t : Float) (w' : List Float) (index' : List ℕ) (r : Reached) → RefinesWithin j points t w₀ w' index index' r → RefinesWithin j points t w w' index index' r
-  loop_end t w' index' r x = record {
+  pub loop_end : {t : Float} {w' : List Float} {index' : List ℕ} {r : Option Reached} → RefinesWithin j points t w₀ w' index index' r → RefinesWithin j points t w w' index index' r
+  loop_end {t} x = record {
     answer = ap (λ (d : Direction). fit_with_refined_knots d t) (sym (direction_put j points w index has few (first-knots j has.under) w₀ piece size put)) ∙ x.answer;
     reaches =
         reaches_later x.reaches (kept_same j.table.firsts (j.table.firsts + j.table.count) index)

@@ -4,7 +4,8 @@
 use mathlib.Core.Path.{◌≡◌, refl, sym, ◌∙◌, ap, subst}
 use mathlib.Core.Bool.{true, true≢false}
 use mathlib.Core.List.{List}
-use mathlib.Core.Option.{Option, none, some}
+use mathlib.Core.Option.{Option as Maybe, none, some}
+use Rattle.std.specs.Prelude.{Option, Some, None}
 use Prim.Native.Nat.{ℕ, ◌-◌, ◌<◌, ◌≤◌}
 use native.Mathlib.Omega.{arith}
 use lib.ListN.{length}
@@ -14,8 +15,6 @@ use Rattle.knots.proofs.KnotLaws.{length_clamped}
 use Rattle.tables.specs.BasisTable.{BasisTable}
 use Rattle.tables.specs.Deviations.{largest_within}
 use Rattle.tables.specs.Directions.{Direction, ladder, grid_rows, grid_columns}
-use Rattle.search.specs.declared.Found.{Found}
-use Rattle.search.specs.declared.Found.TheVariants.{At, Nothing}
 use Rattle.search.specs.Search.{fewest}
 use Rattle.fitting.specs.Within.{Candidate, Marked, refined, spread, interpolated, chosen, pole_count, candidate, candidate_of, fit_on, fit_on_spread, interpolate, fit_with_refined_knots, candidate_passes, passes_on_spread, spread_or, found_or, fit_on_spread_knots, spread_alone, refined_or, fit_within, fewer_or, fit_within_fewest}
 use Rattle.fitting.specs.Tolerance.{NoneAbove, Fails, KeepsTolerance}
@@ -84,7 +83,7 @@ module _ (d : Direction) (lawful : Lawful d) where
   unfolding fit_on_spread_knots found_or spread_or passes_on_spread candidate_passes
   search_cases Q other last t a b = go (fewest (passes_on_spread d t) d.degree last) refl
     where
-      fit : (c : ℕ) (o : Option Candidate) → fit_on_spread d c ≡ o → IsFound (passes_on_spread d t) d.degree last c → Q (spread_or other c o)
+      fit : (c : ℕ) (o : Maybe Candidate) → fit_on_spread d c ≡ o → IsFound (passes_on_spread d t) d.degree last c → Q (spread_or other c o)
       fit c none e h = absurd (true≢false (sym h.passed ∙ ap (candidate_passes d t) e))
       fit c (some f) e h =
           a c f h.below
@@ -95,11 +94,11 @@ module _ (d : Direction) (lawful : Lawful d) where
             least = h.failed-below;
           })
 
-      go : (r : Found) → fewest (passes_on_spread d t) d.degree last ≡ r → Q (found_or d other r)
-      go Nothing e = b (nothing (passes_on_spread d t) d.degree last e)
-      go (At c) e = fit c (fit_on_spread d c) refl (found (passes_on_spread d t) d.degree last c e)
+      go : (r : Option ℕ) → fewest (passes_on_spread d t) d.degree last ≡ r → Q (found_or d other r)
+      go None e = b (nothing (passes_on_spread d t) d.degree last e)
+      go (Some c) e = fit c (fit_on_spread d c) refl (found (passes_on_spread d t) d.degree last c e)
 
-  kept-refined : (t : Float) (r : Option Candidate) (f : Candidate) → largest_within t f.distances ≡ true → KeepsTolerance d t r (refined f)
+  kept-refined : (t : Float) (r : Maybe Candidate) (f : Candidate) → largest_within t f.distances ≡ true → KeepsTolerance d t r (refined f)
   kept-refined t r f h =
       record {
         refined_within = λ g e. let q : f ≡ g = cc in subst (λ (x : Candidate). NoneAbove t x.distances) q (largest-none t f.distances h).1;
@@ -110,7 +109,7 @@ module _ (d : Direction) (lawful : Lawful d) where
         interpolated_last = λ g e. absurd (other_mark (refined f) (interpolated g) (omega arith) e);
       }
 
-  kept-spread : (t : Float) (r : Option Candidate) (c : ℕ) (f : Candidate) → IsSpread d t c f → KeepsTolerance d t r (spread c f)
+  kept-spread : (t : Float) (r : Maybe Candidate) (c : ℕ) (f : Candidate) → IsSpread d t c f → KeepsTolerance d t r (spread c f)
   kept-spread t r c f h =
       record {
         refined_within = λ g e. absurd (other_mark (refined g) (spread c f) (omega arith) (sym e));
@@ -143,7 +142,7 @@ module _ (d : Direction) (lawful : Lawful d) where
   unfolding fit_within refined_or
   within-kept t = go (fit_with_refined_knots d t) refl
     where
-      go : (o : Option Candidate) → fit_with_refined_knots d t ≡ o → KeepsTolerance d t o (refined_or d t o)
+      go : (o : Maybe Candidate) → fit_with_refined_knots d t ≡ o → KeepsTolerance d t o (refined_or d t o)
       go none r = alone-kept t
       go (some f) r = kept-refined t (some f) f (refined_close d t f r)
 
@@ -152,7 +151,7 @@ module _ (d : Direction) (lawful : Lawful d) where
   unfolding fit_within_fewest fewer_or
   within-fewest-kept t = go (fit_with_refined_knots d t) refl
     where
-      go : (o : Option Candidate) → fit_with_refined_knots d t ≡ o → KeepsTolerance d t o (fewer_or d t o)
+      go : (o : Maybe Candidate) → fit_with_refined_knots d t ≡ o → KeepsTolerance d t o (fewer_or d t o)
       go none r = alone-kept t
       go (some f) r =
           search_cases (KeepsTolerance d t (some f)) (refined f) (pole_count d.degree f.flat) t (λ c g b h. kept-spread t (some f) c g h) (λ l. kept-refined t (some f) f (refined_close d t f r))
@@ -162,28 +161,28 @@ module _ (d : Direction) (lawful : Lawful d) where
   unfolding passes_on_spread candidate_passes
   passes-rises t u h c = go (fit_on_spread d c)
     where
-      go : (o : Option Candidate) → candidate_passes d t o ≡ true → candidate_passes d u o ≡ true
+      go : (o : Maybe Candidate) → candidate_passes d t o ≡ true → candidate_passes d u o ≡ true
       go none e = e
       go (some f) e = lawful.rises t u f.distances h e
 
-  alone_at : (t : Float) (c : ℕ) → fewest (passes_on_spread d t) d.degree (length d.params) ≡ At c → (f : Candidate) × (spread_alone d t ≡ spread c f)
+  alone_at : (t : Float) (c : ℕ) → fewest (passes_on_spread d t) d.degree (length d.params) ≡ Some c → (f : Candidate) × (spread_alone d t ≡ spread c f)
   unfolding spread_alone fit_on_spread_knots found_or spread_or passes_on_spread candidate_passes
   alone_at t c e = go (fit_on_spread d c) refl
     where
-      go : (o : Option Candidate) → fit_on_spread d c ≡ o → (f : Candidate) × (found_or d (interpolated (interpolate d)) (fewest (passes_on_spread d t) d.degree (length d.params)) ≡ spread c f)
+      go : (o : Maybe Candidate) → fit_on_spread d c ≡ o → (f : Candidate) × (found_or d (interpolated (interpolate d)) (fewest (passes_on_spread d t) d.degree (length d.params)) ≡ spread c f)
       go none o = absurd (true≢false (sym (found (passes_on_spread d t) d.degree (length d.params) c e).passed ∙ ap (candidate_passes d t) o))
       go (some f) o = (f, ap (found_or d (interpolated (interpolate d))) e ∙ ap (spread_or (interpolated (interpolate d)) c) o)
 
-  alone-nothing : (t : Float) → fewest (passes_on_spread d t) d.degree (length d.params) ≡ Nothing → spread_alone d t ≡ interpolated (interpolate d)
+  alone-nothing : (t : Float) → fewest (passes_on_spread d t) d.degree (length d.params) ≡ None → spread_alone d t ≡ interpolated (interpolate d)
   unfolding spread_alone fit_on_spread_knots found_or
   alone-nothing t e = ap (found_or d (interpolated (interpolate d))) e
 
-  alone-found : (t : Float) (c : ℕ) (f : Candidate) → spread_alone d t ≡ spread c f → fewest (passes_on_spread d t) d.degree (length d.params) ≡ At c
+  alone-found : (t : Float) (c : ℕ) (f : Candidate) → spread_alone d t ≡ spread c f → fewest (passes_on_spread d t) d.degree (length d.params) ≡ Some c
   alone-found t c f e = go (fewest (passes_on_spread d t) d.degree (length d.params)) refl
     where
-      go : (r : Found) → fewest (passes_on_spread d t) d.degree (length d.params) ≡ r → fewest (passes_on_spread d t) d.degree (length d.params) ≡ At c
-      go Nothing r = absurd (other_mark (spread c f) (interpolated (interpolate d)) (omega arith) (sym e ∙ alone-nothing t r))
-      go (At n) r = let a = alone_at t n r in let s : spread n a.0 ≡ spread c f = sym a.1 ∙ e in let q : n ≡ c = cc in r ∙ ap At q
+      go : (r : Option ℕ) → fewest (passes_on_spread d t) d.degree (length d.params) ≡ r → fewest (passes_on_spread d t) d.degree (length d.params) ≡ Some c
+      go None r = absurd (other_mark (spread c f) (interpolated (interpolate d)) (omega arith) (sym e ∙ alone-nothing t r))
+      go (Some n) r = let a = alone_at t n r in let s : spread n a.0 ≡ spread c f = sym a.1 ∙ e in let q : n ≡ c = cc in r ∙ ap Some q
 
   -- where the first tolerance gives a fit on spread knots so does the second, over no more poles
   pub spread_again : (t u : Float) → le t u ≡ true → (c : ℕ) (f : Candidate) → spread_alone d t ≡ spread c f
@@ -194,7 +193,7 @@ module _ (d : Direction) (lawful : Lawful d) where
       (m.0, (a.0, (a.1, m.2)))
 
   -- a fit on spread knots has the poles of its count, and an interpolation as many as there are parameters
-  private-flat : (flat : List Float) (t : BasisTable) (o : Option (List Float)) (f : Candidate) → candidate_of d flat t o ≡ some f → f.flat ≡ flat
+  private-flat : (flat : List Float) (t : BasisTable) (o : Maybe (List Float)) (f : Candidate) → candidate_of d flat t o ≡ some f → f.flat ≡ flat
   unfolding candidate_of candidate
   private-flat flat t none f e = let z : ◌≡◌ {A = ℕ} 0 1 = cc in absurd (omega arith)
   private-flat flat t (some poles) f e = let q : candidate d flat t poles ≡ f = cc in sym (ap (λ (x : Candidate). x.flat) q)
@@ -203,7 +202,7 @@ module _ (d : Direction) (lawful : Lawful d) where
   unfolding fit_on_spread fit_on
   spread-flat c f e = private-flat (approximation_knots d.params c d.degree) _ _ f e
 
-  alone-poles : (t : Float) (c : ℕ) → fewest (passes_on_spread d t) d.degree (length d.params) ≡ At c → poles_of d.degree (spread_alone d t) ≡ c
+  alone-poles : (t : Float) (c : ℕ) → fewest (passes_on_spread d t) d.degree (length d.params) ≡ Some c → poles_of d.degree (spread_alone d t) ≡ c
   unfolding spread_alone unmarked
   alone-poles t c e =
       search_cases (λ (a : Marked). spread_alone d t ≡ a → poles_of d.degree a ≡ c) (interpolated (interpolate d)) (length d.params) t
@@ -211,17 +210,17 @@ module _ (d : Direction) (lawful : Lawful d) where
       (λ l q. absurd (other_mark (spread c (alone_at t c e).0) (interpolated (interpolate d)) (omega arith) (sym (alone_at t c e).1 ∙ q)))
       refl
 
-  alone_all : (t : Float) → fewest (passes_on_spread d t) d.degree (length d.params) ≡ Nothing → poles_of d.degree (spread_alone d t) ≡ length d.params
+  alone_all : (t : Float) → fewest (passes_on_spread d t) d.degree (length d.params) ≡ None → poles_of d.degree (spread_alone d t) ≡ length d.params
   alone_all t e = ap (poles_of d.degree) (alone-nothing t e) ∙ poles-interpolated d
 
   -- in any case the second has no more poles than the first
   pub no_more : (t u : Float) → le t u ≡ true → poles_of d.degree (spread_alone d u) ≤ poles_of d.degree (spread_alone d t)
   no_more t u h = go (fewest (passes_on_spread d t) d.degree (length d.params)) refl (fewest (passes_on_spread d u) d.degree (length d.params)) refl
     where
-      go : (r : Found) → fewest (passes_on_spread d t) d.degree (length d.params) ≡ r → (s : Found) → fewest (passes_on_spread d u) d.degree (length d.params) ≡ s
+      go : (r : Option ℕ) → fewest (passes_on_spread d t) d.degree (length d.params) ≡ r → (s : Option ℕ) → fewest (passes_on_spread d u) d.degree (length d.params) ≡ s
           → poles_of d.degree (spread_alone d u) ≤ poles_of d.degree (spread_alone d t)
-      go Nothing r Nothing s = omega (arith, alone_all t r, alone_all u s)
-      go Nothing r (At n) s = let b = (found (passes_on_spread d u) d.degree (length d.params) n s).below in omega (arith, alone_all t r, alone-poles u n s)
-      go (At c) r s e =
+      go None r None s = omega (arith, alone_all t r, alone_all u s)
+      go None r (Some n) s = let b = (found (passes_on_spread d u) d.degree (length d.params) n s).below in omega (arith, alone_all t r, alone-poles u n s)
+      go (Some c) r s e =
           let m = fewest_monotone (passes_on_spread d t) (passes_on_spread d u) (passes-rises t u h) d.degree (length d.params) c r in
           omega (arith, alone-poles t c r, alone-poles u m.0 m.1, m.2)

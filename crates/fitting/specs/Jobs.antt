@@ -1,6 +1,6 @@
 -- The fitting of one direction in the lent slices: which regions of the work and the index it uses, and which fit stands there. Definitions only.
-use Rattle.std.specs.Prelude.{◌≡◌, Bool, cond, List, ℕ, ◌+◌, ◌-◌, ◌*◌, ◌≤◌, ◌<◌, eqb, length, Float}
-use Rattle.std.proofs.Math.Option.{Option, none, some}
+use Rattle.std.specs.Prelude.{◌≡◌, Bool, cond, List, ℕ, ◌+◌, ◌-◌, ◌*◌, ◌≤◌, ◌<◌, eqb, length, Float, Option, Some, None, IfSome, OnSome}
+use Rattle.std.proofs.Math.Option.{Option as Maybe, none, some}
 use Rattle.places.specs.Regions.{part, splice}
 use Rattle.geometry.specs.Root.{roots_of}
 use Rattle.tables.specs.declared.Measured.{Measured}
@@ -9,16 +9,10 @@ use Rattle.tables.specs.Deviations.{ladder_distances, row_distances, grid_distan
 use Rattle.tables.specs.Layout.{table_in, data_point, Kept, HasTable, HasData}
 use Rattle.tables.specs.Measures.{measured}
 use Rattle.tables.specs.Directions.{Direction, transposed}
-use Rattle.search.specs.declared.Found.{Found}
 use Rattle.search.specs.Search.{fewest}
 use Rattle.fitting.specs.declared.Job.{Job}
-use Rattle.fitting.specs.declared.Attempt.{Attempt}
-use Rattle.fitting.specs.declared.Attempt.TheVariants.{Unfitted, Fitting}
-use Rattle.fitting.specs.declared.Turn.{Turn}
-use Rattle.fitting.specs.declared.Turn.TheVariants.{Ended, Fits, Next}
 use Rattle.fitting.specs.declared.Reached.{Reached}
-use Rattle.fitting.specs.declared.Reached.TheVariants.{Missed, Met}
-use Rattle.fitting.specs.Within.{Candidate, Marked, spread, candidate, table_on, fit_on, fit_on_spread, fit_on_spread_knots, interpolate, Refining, going, fitted, stuck, refinement_round, fit_with_refined_knots, passes_on_spread}
+use Rattle.fitting.specs.Within.{Candidate, Marked, spread, candidate, table_on, fit_on, fit_on_spread, fit_on_spread_knots, interpolate, fit_with_refined_knots, passes_on_spread}
 
 -- By the kind of the data: each point's distance from a fit (for columns from the surface over the other direction's table v), each parameter's deviation,
 -- and the test of a fit on spread knots.
@@ -106,23 +100,22 @@ pub record Measures (j : Job) (points : List Float) (m : ℕ) (w w' : List Float
   pub kept : Kept j.curve (j.deviations + j.table.count) w w'
 
 -- what stands in the slices where an attempt gave a fit
-unfoldable pub attempted : Attempt → Candidate → Option Candidate
-attempted Unfitted f = none
-attempted (Fitting x) f = some f
+unfoldable pub attempted : Option Measured → Candidate → Maybe Candidate
+attempted None f = none
+attempted (Some x) f = some f
 
 -- What least squares on the l flat knots that stand there leaves: no fit; or a fit, which stands there, with its deviations' squares and what its distances measure.
-pub record Attempts (j : Job) (points : List Float) (l : ℕ) (w w' : List Float) (index index' : List ℕ) (r : Attempt) : Type 0 where
+pub record Attempts (j : Job) (points : List Float) (l : ℕ) (w w' : List Float) (index index' : List ℕ) (r : Option Measured) : Type 0 where
   pub answer : fit_on (direction_of j points w index) (flat_region j l w) ≡ attempted r (candidate_in j points l w' index')
-  pub measures : (x : Measured) → r ≡ Fitting x → x ≡ measured (candidate_in j points l w' index').distances
-  pub deviations : (x : Measured) → r ≡ Fitting x
-      → roots_of (part j.deviations (j.deviations + j.table.count) w') ≡ (direction_of j points w index).deviations (candidate_in j points l w' index').distances
+  pub measures : IfSome r (λ x. x ≡ measured (candidate_in j points l w' index').distances)
+  pub deviations : OnSome r (roots_of (part j.deviations (j.deviations + j.table.count) w') ≡ (direction_of j points w index).deviations (candidate_in j points l w' index').distances)
   pub firsts : index' ≡ splice j.table.firsts (j.table.firsts + j.table.count) (table_on (direction_of j points w index) (flat_region j l w)).firsts index
   pub kept : Kept j.table.values (j.deviations + j.table.count) w w'
 
 -- What least squares on the spread knots of m poles leaves: no fit; or a fit on those knots, which stands there, with what its distances measure.
-pub record AttemptsSpread (j : Job) (points : List Float) (m : ℕ) (w w' : List Float) (index index' : List ℕ) (r : Attempt) : Type 0 where
+pub record AttemptsSpread (j : Job) (points : List Float) (m : ℕ) (w w' : List Float) (index index' : List ℕ) (r : Option Measured) : Type 0 where
   pub answer : fit_on_spread (direction_of j points w index) m ≡ attempted r (candidate_in j points (m + j.table.degree + 1) w' index')
-  pub measures : (x : Measured) → r ≡ Fitting x → x ≡ measured (candidate_in j points (m + j.table.degree + 1) w' index').distances
+  pub measures : IfSome r (λ x. x ≡ measured (candidate_in j points (m + j.table.degree + 1) w' index').distances)
   pub firsts : Kept j.table.firsts (j.table.firsts + j.table.count) index index'
   pub kept : Kept j.flat (j.deviations + j.table.count) w w'
 
@@ -133,34 +126,20 @@ pub record PassesThrough (j : Job) (points w w' : List Float) (index index' : Li
   pub firsts : Kept j.table.firsts (j.table.firsts + j.table.count) index index'
   pub kept : Kept j.flat (j.deviations + j.table.count) w w'
 
--- what stands in the slices after one round of refinement on l flat knots
-unfoldable pub turned : Turn → Candidate → (ℕ → List Float) → Refining
-turned Ended f flat = stuck
-turned (Fits x) f flat = fitted f
-turned (Next k) f flat = going (flat k)
-
--- What one round of refinement on the l flat knots that stand there leaves: an end; or the round's fit with what its distances measure; or more flat knots.
-pub record Turns (j : Job) (points : List Float) (l : ℕ) (tolerance : Float) (w w' : List Float) (index index' : List ℕ) (r : Turn) : Type 0 where
-  pub answer : refinement_round (direction_of j points w index) tolerance (going (flat_region j l w)) ≡ turned r (candidate_in j points l w' index') (λ (k : ℕ). flat_region j k w')
-  pub measures : (x : Measured) → r ≡ Fits x → x ≡ measured (candidate_in j points l w' index').distances
-  pub grows : (k : ℕ) → r ≡ Next k → (l < k) × (k ≤ j.table.count + j.table.degree)
-  pub firsts : Kept j.table.firsts (j.table.firsts + j.table.count) index index'
-  pub kept : Kept j.flat (j.fresh + j.table.count) w w'
-
 -- What reaching for the tolerance leaves: where it was met, a fit stands there, with what its distances measure.
-pub record Reaches (j : Job) (points w w' : List Float) (index index' : List ℕ) (r : Reached) : Type 0 where
-  pub measures : (l : ℕ) (x : Measured) → r ≡ Met l x → x ≡ measured (candidate_in j points l w' index').distances
-  pub few : (l : ℕ) (x : Measured) → r ≡ Met l x → HasKnots j l
+pub record Reaches (j : Job) (points w w' : List Float) (index index' : List ℕ) (r : Option Reached) : Type 0 where
+  pub measures : IfSome r (λ x. x.measured ≡ measured (candidate_in j points x.flat w' index').distances)
+  pub few : IfSome r (λ x. HasKnots j x.flat)
   pub firsts : Kept j.table.firsts (j.table.firsts + j.table.count) index index'
   pub kept : Kept j.flat (j.fresh + j.table.count) w w'
 
 -- the fit, by how many flat knots it has
-unfoldable pub refined_in : Reached → (ℕ → Candidate) → Option Candidate
-refined_in Missed f = none
-refined_in (Met l x) f = some (f l)
+unfoldable pub refined_in : Option Reached → (ℕ → Candidate) → Maybe Candidate
+refined_in None f = none
+refined_in (Some x) f = some (f x.flat)
 
 -- What refinement from a single Bézier piece leaves.
-pub record RefinesWithin (j : Job) (points : List Float) (tolerance : Float) (w w' : List Float) (index index' : List ℕ) (r : Reached) : Type 0 where
+pub record RefinesWithin (j : Job) (points : List Float) (tolerance : Float) (w w' : List Float) (index index' : List ℕ) (r : Option Reached) : Type 0 where
   pub answer : fit_with_refined_knots (direction_of j points w index) tolerance ≡ refined_in r (λ (l : ℕ). candidate_in j points l w' index')
   pub reaches : Reaches j points w w' index index' r
 
@@ -171,17 +150,17 @@ pub record Tested (j : Job) (points : List Float) (tolerance : Float) (m : ℕ) 
   pub kept : Kept j.flat (j.deviations + j.table.count) w w'
 
 -- What the search for the fewest poles below `last` leaves: the same, with its last try in the regions.
-pub record FewestFound (j : Job) (points : List Float) (tolerance : Float) (last : ℕ) (w w' : List Float) (index index' : List ℕ) (r : Found) : Type 0 where
+pub record FewestFound (j : Job) (points : List Float) (tolerance : Float) (last : ℕ) (w w' : List Float) (index index' : List ℕ) (r : Option ℕ) : Type 0 where
   pub answer : r ≡ fewest (passes_on_spread (direction_of j points w index) tolerance) j.table.degree last
   pub firsts : Kept j.table.firsts (j.table.firsts + j.table.count) index index'
   pub kept : Kept j.flat (j.deviations + j.table.count) w w'
 
 -- the fit, by how many flat knots it has, and another where there is none
-unfoldable pub spread_in : ℕ → Marked → Reached → (ℕ → Candidate) → Marked
-spread_in degree other Missed f = other
-spread_in degree other (Met l x) f = spread (l - degree - 1) (f l)
+unfoldable pub spread_in : ℕ → Marked → Option Reached → (ℕ → Candidate) → Marked
+spread_in degree other None f = other
+spread_in degree other (Some x) f = spread (x.flat - degree - 1) (f x.flat)
 
 -- What the spread search below `last` leaves.
-pub record SpreadsBelow (j : Job) (points : List Float) (tolerance : Float) (last : ℕ) (w w' : List Float) (index index' : List ℕ) (r : Reached) : Type 0 where
+pub record SpreadsBelow (j : Job) (points : List Float) (tolerance : Float) (last : ℕ) (w w' : List Float) (index index' : List ℕ) (r : Option Reached) : Type 0 where
   pub answer : (other : Marked) → fit_on_spread_knots (direction_of j points w index) tolerance last other ≡ spread_in j.table.degree other r (λ (l : ℕ). candidate_in j points l w' index')
   pub reaches : Reaches j points w w' index index' r

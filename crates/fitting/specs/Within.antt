@@ -1,6 +1,6 @@
 -- Fits of one direction: on spread knots, by interpolation, and within a tolerance (`fit_within`, `fit_within_fewest`, `fit_on_spread_knots`). Definitions only.
-use Rattle.std.specs.Prelude.{ℕ, zero, suc, ◌-◌, Bool, false, cond, List, length, Float}
-use Rattle.std.proofs.Math.Option.{Option, none, some}
+use Rattle.std.specs.Prelude.{ℕ, zero, suc, ◌-◌, Bool, false, cond, List, length, Float, Option, Some, None}
+use Rattle.std.proofs.Math.Option.{Option as Maybe, none, some}
 use Rattle.geometry.specs.Doubles.{largest}
 use Rattle.knots.specs.Knots.{bezier_knots, averaged_knots, approximation_knots}
 use Rattle.tables.specs.BasisTable.{BasisTable, basis_table}
@@ -8,8 +8,6 @@ use Rattle.solving.specs.LeastSquares.{least_squares}
 use Rattle.solving.specs.Interpolation.{interpolation}
 use Rattle.tables.specs.Deviations.{largest_within}
 use Rattle.tables.specs.Directions.{Direction}
-use Rattle.search.specs.declared.Found.{Found}
-use Rattle.search.specs.declared.Found.TheVariants.{At, Nothing}
 use Rattle.search.specs.Search.{fewest}
 use Rattle.refinement.specs.Refinement.{refined_knots}
 
@@ -41,16 +39,16 @@ unfoldable pub candidate : Direction → List Float → BasisTable → List Floa
 candidate d flat t poles = record { flat = flat; poles = poles; distances = d.distances t (pole_count d.degree flat) poles }
 
 -- and none where there are no poles
-unfoldable pub candidate_of : Direction → List Float → BasisTable → Option (List Float) → Option Candidate
+unfoldable pub candidate_of : Direction → List Float → BasisTable → Maybe (List Float) → Maybe Candidate
 candidate_of d flat t none = none
 candidate_of d flat t (some poles) = some (candidate d flat t poles)
 
 -- by least squares, which may give none
-unfoldable pub fit_on : Direction → List Float → Option Candidate
+unfoldable pub fit_on : Direction → List Float → Maybe Candidate
 fit_on d flat = let t = table_on d flat in candidate_of d flat t (least_squares t (pole_count d.degree flat) d.lines d.point)
 
 -- on the spread knots of a pole count
-unfoldable pub fit_on_spread : Direction → ℕ → Option Candidate
+unfoldable pub fit_on_spread : Direction → ℕ → Maybe Candidate
 fit_on_spread d count = fit_on d (approximation_knots d.params count d.degree)
 
 -- by interpolation, on averaged knots
@@ -69,12 +67,12 @@ pub data Refining : Type 0 where
   stuck : Refining
 
 -- on with these knots, or an end where there are none
-unfoldable pub going_on : Option (List Float) → Refining
+unfoldable pub going_on : Maybe (List Float) → Refining
 going_on none = stuck
 going_on (some flat) = going flat
 
 -- a round's fit, if its largest deviation is within the tolerance; else the knots of the next round; an end where least squares gives none
-unfoldable pub judged : Direction → Float → List Float → Option Candidate → Refining
+unfoldable pub judged : Direction → Float → List Float → Maybe Candidate → Refining
 judged d t flat none = stuck
 judged d t flat (some f) =
     let next = refined_knots d.params (table_on d flat).firsts (d.deviations f.distances) (largest f.distances) t d.degree flat in
@@ -91,20 +89,20 @@ refinement_rounds d t zero s = s
 refinement_rounds d t (suc k) s = refinement_rounds d t k (refinement_round d t s)
 
 -- the fit, if one was given
-unfoldable pub fit_in : Refining → Option Candidate
+unfoldable pub fit_in : Refining → Maybe Candidate
 fit_in (going flat) = none
 fit_in (fitted f) = some f
 fit_in stuck = none
 
 -- From a single Bézier piece on: the fit of the first round whose largest deviation is within the tolerance. As many rounds as parameters are enough: each
 -- but the last adds a pole, and the count stays below theirs.
-unfoldable pub fit_with_refined_knots : Direction → Float → Option Candidate
+unfoldable pub fit_with_refined_knots : Direction → Float → Maybe Candidate
 fit_with_refined_knots d t = fit_in (refinement_rounds d t (length d.params) (going (bezier_knots d.degree)))
 
 -- ---- the spread search
 
 -- whether a fit, if there is one, passes the direction's test
-unfoldable pub candidate_passes : Direction → Float → Option Candidate → Bool
+unfoldable pub candidate_passes : Direction → Float → Maybe Candidate → Bool
 candidate_passes d t none = false
 candidate_passes d t (some f) = d.within t f.distances
 
@@ -113,13 +111,13 @@ unfoldable pub passes_on_spread : Direction → Float → ℕ → Bool
 passes_on_spread d t count = candidate_passes d t (fit_on_spread d count)
 
 -- the fit of a count that was found, and another where none was
-unfoldable pub spread_or : Marked → ℕ → Option Candidate → Marked
+unfoldable pub spread_or : Marked → ℕ → Maybe Candidate → Marked
 spread_or other count none = other
 spread_or other count (some f) = spread count f
 
-unfoldable pub found_or : Direction → Marked → Found → Marked
-found_or d other Nothing = other
-found_or d other (At count) = spread_or other count (fit_on_spread d count)
+unfoldable pub found_or : Direction → Marked → Option ℕ → Marked
+found_or d other None = other
+found_or d other (Some count) = spread_or other count (fit_on_spread d count)
 
 -- the fit on spread knots with the poles that the search finds below `last`, and another where it finds none
 unfoldable pub fit_on_spread_knots : Direction → Float → ℕ → Marked → Marked
@@ -132,7 +130,7 @@ spread_alone d t = fit_on_spread_knots d t (length d.params) (interpolated (inte
 -- ---- within a tolerance
 
 -- a ladder: refinement, else the spread search, else interpolation
-unfoldable pub refined_or : Direction → Float → Option Candidate → Marked
+unfoldable pub refined_or : Direction → Float → Maybe Candidate → Marked
 refined_or d t none = spread_alone d t
 refined_or d t (some f) = refined f
 
@@ -140,7 +138,7 @@ unfoldable pub fit_within : Direction → Float → Marked
 fit_within d t = refined_or d t (fit_with_refined_knots d t)
 
 -- a grid's direction: after a refinement the spread search goes on below its poles
-unfoldable pub fewer_or : Direction → Float → Option Candidate → Marked
+unfoldable pub fewer_or : Direction → Float → Maybe Candidate → Marked
 fewer_or d t none = spread_alone d t
 fewer_or d t (some f) = fit_on_spread_knots d t (pole_count d.degree f.flat) (refined f)
 

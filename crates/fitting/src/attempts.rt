@@ -3,7 +3,7 @@ ghost use Rattle.std.specs.Prelude.{◌≤◌, ◌<◌};
 ghost use Rattle.tables.specs.Layout.{HasTable};
 ghost use Rattle.fitting.specs.Jobs.{HasJob, HasKnots, Measures, Attempts, AttemptsSpread, PassesThrough};
 
-use crate::{Attempt, Job};
+use crate::Job;
 use tables::Measured;
 use tables::deviations::{grid_deviations, ladder_deviations, row_deviations};
 
@@ -29,7 +29,13 @@ fn measure(work: &mut [f64], index: &[usize], points: &[f64], job: Job, m: usize
 }
 
 // Least squares on the l flat knots that stand in the work: the fit in its place, or none.
-pub fn attempt(work: &mut [f64], index: &mut [usize], points: &[f64], job: Job, l: usize) -> Attempt
+pub fn attempt(
+    work: &mut [f64],
+    index: &mut [usize],
+    points: &[f64],
+    job: Job,
+    l: usize,
+) -> Option<Measured>
     requires { HasJob job points.now work.old index.old × HasKnots job l }
     ensures { Attempts job points.now l work.old work.new index.old index.new result }
 {
@@ -39,9 +45,9 @@ pub fn attempt(work: &mut [f64], index: &mut [usize], points: &[f64], job: Job, 
     if !solving::squares::least_squares(
         work, index, points, table, job.given, m, job.band, job.poles,
     ) {
-        return Attempt::Unfitted;
+        return None;
     }
-    Attempt::Fitting(measure(work, index, points, job, m))
+    Some(measure(work, index, points, job, m))
 }
 
 // Least squares on the spread knots of m poles.
@@ -51,7 +57,7 @@ pub fn attempt_spread(
     points: &[f64],
     job: Job,
     m: usize,
-) -> Attempt
+) -> Option<Measured>
     requires { HasJob job points.now work.old index.old × (job.table.degree < m) × (m ≤ job.table.count) }
     ensures { AttemptsSpread job points.now m work.old work.new index.old index.new result }
 {

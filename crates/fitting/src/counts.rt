@@ -2,8 +2,9 @@
 ghost use Rattle.std.specs.Prelude.{◌≤◌, ◌<◌};
 ghost use Rattle.fitting.specs.Jobs.{HasJob, Tested, FewestFound, SpreadsBelow};
 
-use crate::{Attempt, Job, Reached};
-use search::{Found, Next, Search};
+use crate::attempts::attempt_spread;
+use crate::{Job, Reached};
+use search::Search;
 
 // Document 01's test of a pole count on spread knots. A ladder's distances are all at most the tolerance where none is NaN and the largest is.
 pub fn passes(
@@ -17,16 +18,13 @@ pub fn passes(
     requires { HasJob job points.now work.old index.old × (job.table.degree < m) × (m ≤ job.table.count) }
     ensures { Tested job points.now tolerance m work.old work.new index.old index.new result }
 {
-    match crate::attempts::attempt_spread(work, index, points, job, m) {
-        Attempt::Unfitted => false,
-        Attempt::Fitting(x) => {
-            if job.given.kind == tables::LADDER {
-                x.unreadable == 0 && x.largest <= tolerance
-            } else {
-                x.largest <= tolerance
-            }
-        }
+    let Some(x) = attempt_spread(work, index, points, job, m) else {
+        return false;
+    };
+    if job.given.kind == tables::LADDER && x.unreadable > 0 {
+        return false;
     }
+    x.largest <= tolerance
 }
 
 // The fewest poles that the search finds below `last`.
@@ -37,22 +35,17 @@ pub fn fit_with_fewest_poles(
     job: Job,
     tolerance: f64,
     last: usize,
-) -> Found
+) -> Option<usize>
     requires { HasJob job points.now work.old index.old × (job.table.degree < last) × (last ≤ job.table.count) }
     ensures { FewestFound job points.now tolerance last work.old work.new index.old index.new result }
 {
     let mut s = Search::new(job.table.degree, last);
-    loop {
-        match s.next() {
-            Next::Done => break,
-            Next::Try(m) => {
-                if passes(work, index, points, job, tolerance, m) {
-                    s = s.fitted(m);
-                } else {
-                    s = s.failed(m);
-                }
-            }
-        }
+    while let Some(m) = s.next() {
+        s = if passes(work, index, points, job, tolerance, m) {
+            s.fitted(m)
+        } else {
+            s.failed(m)
+        };
     }
     s.found(last)
 }
@@ -65,15 +58,14 @@ pub fn fit_on_spread_knots(
     job: Job,
     tolerance: f64,
     last: usize,
-) -> Reached
+) -> Option<Reached>
     requires { HasJob job points.now work.old index.old × (job.table.degree < last) × (last ≤ job.table.count) }
     ensures { SpreadsBelow job points.now tolerance last work.old work.new index.old index.new result }
 {
-    match fit_with_fewest_poles(work, index, points, job, tolerance, last) {
-        Found::Nothing => Reached::Missed,
-        Found::At(m) => match crate::attempts::attempt_spread(work, index, points, job, m) {
-            Attempt::Unfitted => Reached::Missed,
-            Attempt::Fitting(x) => Reached::Met(m + job.table.degree + 1, x),
-        },
-    }
+    let m = fit_with_fewest_poles(work, index, points, job, tolerance, last)?;
+    let measured = attempt_spread(work, index, points, job, m)?;
+    Some(Reached {
+        flat: m + job.table.degree + 1,
+        measured,
+    })
 }

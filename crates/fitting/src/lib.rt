@@ -71,24 +71,9 @@ pub struct Job {
     pub fresh: usize,
 }
 
-// What least squares on given knots came to: nothing, or a fit with what its distances measure.
+// A fit that met the tolerance: on how many flat knots, and what its distances measure.
 #[derive(Clone, Copy)]
-pub enum Attempt {
-    Unfitted,
-    Fitting(Measured),
-}
-
-// What one round of refinement comes to: an end without a fit, a fit within the tolerance, or so many flat knots for the next round.
-#[derive(Clone, Copy)]
-pub enum Turn {
-    Ended,
-    Fits(Measured),
-    Next(usize),
-}
-
-// Whether the tolerance was met: not, or by a fit on so many flat knots, with what its distances measure.
-#[derive(Clone, Copy)]
-pub enum Reached {
-    Missed,
-    Met(usize, Measured),
+pub struct Reached {
+    pub flat: usize,
+    pub measured: Measured,
 }

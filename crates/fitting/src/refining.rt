@@ -1,9 +1,10 @@
 // Refinement (`fit_with_refined_knots`): rounds of least squares and splitting, in the job's regions of the lent slices.
 ghost use Rattle.std.specs.Prelude.{length};
-ghost use Rattle.fitting.specs.Jobs.{HasJob, HasKnots, Turns, RefinesWithin};
+ghost use Rattle.fitting.specs.Jobs.{HasJob, RefinesWithin};
 ghost use Rattle.fitting.specs.Splits.{HasSplits, Splits};
 
-use crate::{Attempt, Job, Reached, Turn, attempts};
+use crate::attempts::attempt;
+use crate::{Job, Reached};
 
 // A round of splitting on the l flat knots that stand in the work, by the squares of the deviations that stand there: how many flat knots there are then.
 fn split_spans(
@@ -35,59 +36,28 @@ fn split_spans(
     )
 }
 
-// One round on the l flat knots that stand in the work.
-fn turn(
-    work: &mut [f64],
-    index: &mut [usize],
-    points: &[f64],
-    job: Job,
-    l: usize,
-    tolerance: f64,
-) -> Turn
-    requires { HasJob job points.now work.old index.old × HasKnots job l }
-    ensures { Turns job points.now l tolerance work.old work.new index.old index.new result }
-{
-    match attempts::attempt(work, index, points, job, l) {
-        Attempt::Unfitted => Turn::Ended,
-        Attempt::Fitting(m) => {
-            if m.largest <= tolerance {
-                return Turn::Fits(m);
-            }
-            let table = job.table;
-            let start = table.firsts;
-            let end = start + table.count;
-            match split_spans(work, &mut index[start..end], job, l, tolerance, m.largest) {
-                None => Turn::Ended,
-                Some(k) => Turn::Next(k),
-            }
-        }
-    }
-}
-
-// Refinement: from a single Bézier piece, rounds of least squares and splitting, until a fit's largest deviation is within the tolerance.
+// Refinement: from a single Bézier piece, rounds of least squares and splitting, until a fit's largest deviation is within the tolerance; none where a round
+// gives no fit or splits no span.
 pub fn fit_with_refined_knots(
     work: &mut [f64],
     index: &mut [usize],
     points: &[f64],
     job: Job,
     tolerance: f64,
-) -> Reached
+) -> Option<Reached>
     requires { HasJob job points.now work.old index.old }
     ensures { RefinesWithin job points.now tolerance work.old work.new index.old index.new result }
 {
-    knots::clamped::bezier_knots(work, job.table.degree, job.flat);
-    let mut l = 2 * job.table.degree + 2;
+    let table = job.table;
+    let end = table.firsts + table.count;
+    knots::clamped::bezier_knots(work, table.degree, job.flat);
+    let mut flat = 2 * table.degree + 2;
     loop {
-        match turn(work, index, points, job, l, tolerance) {
-            Turn::Ended => {
-                return Reached::Missed;
-            }
-            Turn::Fits(m) => {
-                return Reached::Met(l, m);
-            }
-            Turn::Next(k) => {
-                l = k;
-            }
+        let measured = attempt(work, index, points, job, flat)?;
+        if measured.largest <= tolerance {
+            return Some(Reached { flat, measured });
         }
+        let firsts = &mut index[table.firsts..end];
+        flat = split_spans(work, firsts, job, flat, tolerance, measured.largest)?;
     }
 }

@@ -1,11 +1,12 @@
 -- What each call makes of a direction: the fit that stands in the regions is the definition's, with what its distances measure. Assumes nothing.
 use mathlib.Core.Path.{◌≡◌, refl, sym, ap, ◌∙◌, subst}
 use mathlib.Core.List.{List}
-use mathlib.Core.Option.{Option}
+use mathlib.Core.Option.{Option as Maybe}
 use Prim.Native.Nat.{ℕ, ◌+◌, ◌-◌, ◌≤◌}
 use native.Mathlib.Omega.{arith}
 use lib.ListN.{length}
 use lib.Ieee.{Float}
+use Rattle.std.specs.Prelude.{Option, Some, None, Ok, Err}
 use Rattle.geometry.specs.Doubles.{largest}
 use Rattle.bspline.specs.declared.Refusal.{Refusal}
 use Rattle.bspline.specs.declared.Refusal.TheVariants.{PoleCountMismatch}
@@ -18,10 +19,7 @@ use Rattle.fitting.specs.declared.Job.{Job}
 use Rattle.fitting.specs.declared.Fit.{Fit}
 use Rattle.fitting.specs.declared.Mark.{Mark}
 use Rattle.fitting.specs.declared.Mark.TheVariants.{Refined, Spread, Interpolated, Chosen}
-use Rattle.fitting.specs.declared.Attempt.{Attempt}
-use Rattle.fitting.specs.declared.Attempt.TheVariants.{Unfitted, Fitting}
 use Rattle.fitting.specs.declared.Reached.{Reached}
-use Rattle.fitting.specs.declared.Reached.TheVariants.{Missed, Met}
 use Rattle.checks.specs.declared.Call.TheVariants.{Interpolate, Approximate, ApproximateWithin, SearchSpread}
 use Rattle.making.specs.declared.Standing.{Standing}
 use Rattle.fitting.specs.Within.{Candidate, interpolated, interpolate, fit_on_spread_knots, spread_alone, refined_or, fit_within}
@@ -30,7 +28,6 @@ use Rattle.making.specs.Results.{FitResult, chosen_or, fit_by}
 use Rattle.fitting.specs.Jobs.{HasJob, HasKnots, direction_of, candidate_in, attempted, refined_in, spread_in, AttemptsSpread, PassesThrough, Reaches, RefinesWithin, SpreadsBelow}
 use Rattle.making.specs.Runs.{marked_as, standing_in, made_in, StandsIn, Makes, Made}
 use Rattle.fitting.proofs.AttemptLaws.{most-knots, params-long, met, kept_to_fresh, direction-kept}
-use Rattle.std.specs.Prelude.{Ok, Err}
 
 module _ {j : Job} {points w w' : List Float} {index index' : List ℕ} where
   pub fails : {fit : FitResult} (c : Refusal) → fit ≡ Err c → Kept j.table.firsts (j.table.firsts + j.table.count) index index' → Kept j.flat (length w) w w' → Makes j points fit w w' index index' (Err c)
@@ -59,9 +56,9 @@ module _ {j : Job} {points w w' : List Float} {index index' : List ℕ} where
 
   -- one that met what was asked for
   pub stands : {fit : FitResult} (mk : Mark) (l : ℕ) (y : Measured) → fit ≡ Ok (marked_as mk (l - j.table.degree - 1) (candidate_in j points l w' index')) → largest_deviation mk ≡ y.largest
-      → Reaches j points w w' index index' (Met l y) → j.fresh + j.table.count ≤ length w → Makes j points fit w w' index index' (Ok (record { mark = mk; flat = l; unreadable = y.unreadable }))
+      → Reaches j points w w' index index' (Some (record { flat = l; measured = y })) → j.fresh + j.table.count ≤ length w → Makes j points fit w w' index index' (Ok (record { mark = mk; flat = l; unreadable = y.unreadable }))
   stands mk l y e m r far =
-      stands_here mk l y e m (r.few l y refl) (r.measures l y refl) r.firsts (kept_wider j.flat (j.fresh + j.table.count) j.flat (length w) w w' (omega arith) far r.kept)
+      stands_here mk l y e m r.few r.measures r.firsts (kept_wider j.flat (j.fresh + j.table.count) j.flat (length w) w w' (omega arith) far r.kept)
 
   -- from slices that were changed before
   pub makes_later : {w₀ : List Float} {index₀ : List ℕ} {fit fit₀ : FitResult} {r : Made} → Makes j points fit w w' index index' r → fit₀ ≡ fit → Kept j.table.firsts (j.table.firsts + j.table.count) index₀ index
@@ -80,69 +77,69 @@ module _ {j : Job} {points w : List Float} {index : List ℕ} (has : HasJob j po
   unfolding fit_by marked_as direction_of
   made_through {w'} {index'} {y} x =
       stands (Interpolated y.largest) (j.table.count + j.table.degree + 1) y (ap (λ (f : Candidate). Ok (interpolated f)) (sym x.fit)) refl
-      (met (most-knots j has.under) (x.measures ∙ ap (λ (f : Candidate). measured f.distances) (sym x.fit)) x.firsts (kept_to_fresh has x.kept)) has.fresh_in
+      (met _ (most-knots j has.under) (x.measures ∙ ap (λ (f : Candidate). measured f.distances) (sym x.fit)) x.firsts (kept_to_fresh has x.kept)) has.fresh_in
 
   -- ---- with a chosen pole count
-  module _ {m : ℕ} {w' : List Float} {index' : List ℕ} {r : Attempt} (x : AttemptsSpread j points m w w' index index' r) where
-    pub chosen_unfitted : r ≡ Unfitted → Makes j points (fit_by (Approximate m) (direction_of j points w index)) w w' index index' (Err PoleCountMismatch)
+  module _ {m : ℕ} {w' : List Float} {index' : List ℕ} {r : Option Measured} (x : AttemptsSpread j points m w w' index index' r) where
+    pub chosen_unfitted : r ≡ None → Makes j points (fit_by (Approximate m) (direction_of j points w index)) w w' index index' (Err PoleCountMismatch)
     unfolding fit_by chosen_or attempted direction_of
     chosen_unfitted e =
-        fails PoleCountMismatch (ap (chosen_or PoleCountMismatch) (x.answer ∙ ap (λ (a : Attempt). attempted a (candidate_in j points (m + j.table.degree + 1) w' index')) e)) x.firsts (to_end (kept_to_fresh has x.kept))
+        fails PoleCountMismatch (ap (chosen_or PoleCountMismatch) (x.answer ∙ ap (λ (a : Option Measured). attempted a (candidate_in j points (m + j.table.degree + 1) w' index')) e)) x.firsts (to_end (kept_to_fresh has x.kept))
 
-    pub chosen_fitting : (y : Measured) → r ≡ Fitting y → HasKnots j (m + j.table.degree + 1)
+    pub chosen_fitting : (y : Measured) → r ≡ Some y → HasKnots j (m + j.table.degree + 1)
         → Makes j points (fit_by (Approximate m) (direction_of j points w index)) w w' index index' (Ok (record { mark = Chosen y.largest; flat = m + j.table.degree + 1; unreadable = y.unreadable }))
     unfolding fit_by chosen_or attempted marked_as direction_of
     chosen_fitting y e h =
         stands (Chosen y.largest) (m + j.table.degree + 1) y
-        (ap (chosen_or PoleCountMismatch) (x.answer ∙ ap (λ (a : Attempt). attempted a (candidate_in j points (m + j.table.degree + 1) w' index')) e)) refl
-        (met h (x.measures y e) x.firsts (kept_to_fresh has x.kept)) has.fresh_in
+        (ap (chosen_or PoleCountMismatch) (x.answer ∙ ap (λ (a : Option Measured). attempted a (candidate_in j points (m + j.table.degree + 1) w' index')) e)) refl
+        (met _ h (rw e at x.measures) x.firsts (kept_to_fresh has x.kept)) has.fresh_in
 
   -- ---- by the spread search
-  module _ {t : Float} {w₁ : List Float} {index₁ : List ℕ} {r : Reached} (x : SpreadsBelow j points t j.table.count w w₁ index index₁ r) where
+  module _ {t : Float} {w₁ : List Float} {index₁ : List ℕ} {r : Option Reached} (x : SpreadsBelow j points t j.table.count w w₁ index index₁ r) where
     alone_is : fit_by (SearchSpread t) (direction_of j points w index) ≡ Ok (spread_in j.table.degree (interpolated (interpolate (direction_of j points w index))) r (λ (l : ℕ). candidate_in j points l w₁ index₁))
     unfolding fit_by spread_alone
     alone_is =
         ap (λ (n : ℕ). Ok (fit_on_spread_knots (direction_of j points w index) t n (interpolated (interpolate (direction_of j points w index))))) (params-long j points w index has)
         ∙ ap Ok (x.answer (interpolated (interpolate (direction_of j points w index))))
 
-    pub spread_missed : r ≡ Missed → {w' : List Float} {index' : List ℕ} {a : Made} → Makes j points (fit_by Interpolate (direction_of j points w₁ index₁)) w₁ w' index₁ index' a
+    pub spread_missed : r ≡ None → {w' : List Float} {index' : List ℕ} {a : Made} → Makes j points (fit_by Interpolate (direction_of j points w₁ index₁)) w₁ w' index₁ index' a
         → Makes j points (fit_by (SearchSpread t) (direction_of j points w index)) w w' index index' a
     unfolding fit_by spread_in
     spread_missed e y =
         makes_later y
         (alone_is
-        ∙ ap (λ (b : Reached). Ok (spread_in j.table.degree (interpolated (interpolate (direction_of j points w index))) b (λ (l : ℕ). candidate_in j points l w₁ index₁))) e
+        ∙ ap (λ (b : Option Reached). Ok (spread_in j.table.degree (interpolated (interpolate (direction_of j points w index))) b (λ (l : ℕ). candidate_in j points l w₁ index₁))) e
         ∙ ap (λ (d : Direction). Ok (interpolated (interpolate d))) (sym (direction-kept j points w w₁ index index₁ (j.fresh + j.table.count) (j.table.firsts + j.table.count) has x.reaches.kept x.reaches.firsts)))
         x.reaches.firsts (to_end x.reaches.kept)
 
-    pub spread_met : (l : ℕ) (y : Measured) → r ≡ Met l y → Makes j points (fit_by (SearchSpread t) (direction_of j points w index)) w w₁ index index₁ (Ok (record { mark = Spread y.largest; flat = l; unreadable = y.unreadable }))
+    pub spread_met : (f : Reached) → r ≡ Some f → Makes j points (fit_by (SearchSpread t) (direction_of j points w index)) w w₁ index index₁ (Ok (record { mark = Spread f.measured.largest; flat = f.flat; unreadable = f.measured.unreadable }))
     unfolding spread_in marked_as
-    spread_met l y e =
-        stands (Spread y.largest) l y
-        (alone_is ∙ ap (λ (b : Reached). Ok (spread_in j.table.degree (interpolated (interpolate (direction_of j points w index))) b (λ (l : ℕ). candidate_in j points l w₁ index₁))) e) refl
+    spread_met f e =
+        stands (Spread f.measured.largest) f.flat f.measured
+        (alone_is ∙ ap (λ (b : Option Reached). Ok (spread_in j.table.degree (interpolated (interpolate (direction_of j points w index))) b (λ (l : ℕ). candidate_in j points l w₁ index₁))) e) refl
         (subst (Reaches j points w w₁ index index₁) e x.reaches) has.fresh_in
 
   -- ---- by refinement
-  module _ {t : Float} {w₁ : List Float} {index₁ : List ℕ} {r : Reached} (x : RefinesWithin j points t w w₁ index index₁ r) where
+  module _ {t : Float} {w₁ : List Float} {index₁ : List ℕ} {r : Option Reached} (x : RefinesWithin j points t w w₁ index index₁ r) where
     within_is : fit_by (ApproximateWithin t) (direction_of j points w index) ≡ Ok (refined_or (direction_of j points w index) t (refined_in r (λ (l : ℕ). candidate_in j points l w₁ index₁)))
     unfolding fit_by fit_within
-    within_is = ap (λ (o : Option Candidate). Ok (refined_or (direction_of j points w index) t o)) x.answer
+    within_is = ap (λ (o : Maybe Candidate). Ok (refined_or (direction_of j points w index) t o)) x.answer
 
-    pub refined_missed : r ≡ Missed → {w' : List Float} {index' : List ℕ} {a : Made} → Makes j points (fit_by (SearchSpread t) (direction_of j points w₁ index₁)) w₁ w' index₁ index' a
+    pub refined_missed : r ≡ None → {w' : List Float} {index' : List ℕ} {a : Made} → Makes j points (fit_by (SearchSpread t) (direction_of j points w₁ index₁)) w₁ w' index₁ index' a
         → Makes j points (fit_by (ApproximateWithin t) (direction_of j points w index)) w w' index index' a
     unfolding fit_by refined_in refined_or
     refined_missed e y =
         makes_later y
         (within_is
-        ∙ ap (λ (b : Reached). Ok (refined_or (direction_of j points w index) t (refined_in b (λ (l : ℕ). candidate_in j points l w₁ index₁)))) e
+        ∙ ap (λ (b : Option Reached). Ok (refined_or (direction_of j points w index) t (refined_in b (λ (l : ℕ). candidate_in j points l w₁ index₁)))) e
         ∙ ap (λ (d : Direction). Ok (spread_alone d t)) (sym (direction-kept j points w w₁ index index₁ (j.fresh + j.table.count) (j.table.firsts + j.table.count) has x.reaches.kept x.reaches.firsts)))
         x.reaches.firsts (to_end x.reaches.kept)
 
-    pub refined_met : (l : ℕ) (y : Measured) → r ≡ Met l y → Makes j points (fit_by (ApproximateWithin t) (direction_of j points w index)) w w₁ index index₁ (Ok (record { mark = Refined y.largest; flat = l; unreadable = y.unreadable }))
+    pub refined_met : (f : Reached) → r ≡ Some f → Makes j points (fit_by (ApproximateWithin t) (direction_of j points w index)) w w₁ index index₁ (Ok (record { mark = Refined f.measured.largest; flat = f.flat; unreadable = f.measured.unreadable }))
     unfolding refined_in refined_or marked_as
-    refined_met l y e =
-        stands (Refined y.largest) l y
-        (within_is ∙ ap (λ (b : Reached). Ok (refined_or (direction_of j points w index) t (refined_in b (λ (l : ℕ). candidate_in j points l w₁ index₁)))) e) refl
+    refined_met f e =
+        stands (Refined f.measured.largest) f.flat f.measured
+        (within_is ∙ ap (λ (b : Option Reached). Ok (refined_or (direction_of j points w index) t (refined_in b (λ (l : ℕ). candidate_in j points l w₁ index₁)))) e) refl
         (subst (Reaches j points w w₁ index index₁) e x.reaches) has.fresh_in
 
 -- ---- what is handed out of it

@@ -7,6 +7,7 @@ use Prim.Native.Nat.{ℕ, ◌+◌, ◌-◌, ◌*◌, ◌≤◌}
 use native.Mathlib.Omega.{arith}
 use lib.ListN.{length}
 use lib.Ieee.{Float}
+use Rattle.std.specs.Prelude.{Option, Some, None, Ok}
 use Rattle.places.specs.Regions.{part, splice}
 use Rattle.places.proofs.RegionLaws.{length_part, part-splice}
 use Rattle.tables.specs.declared.Measured.{Measured}
@@ -17,7 +18,6 @@ use Rattle.tables.proofs.KeptLaws.{kept_same, kept-splice, kept_wider, kept_then
 use Rattle.fitting.specs.declared.Job.{Job}
 use Rattle.fitting.specs.declared.Mark.TheVariants.{Refined, Spread}
 use Rattle.fitting.specs.declared.Reached.{Reached}
-use Rattle.fitting.specs.declared.Reached.TheVariants.{Missed, Met}
 use Rattle.checks.specs.declared.Call.TheVariants.{SearchSpread}
 use Rattle.fitting.specs.Within.{Candidate, refined, candidate, table_on, spread_alone, fit_on_spread_knots, fewer_or, fit_within_fewest}
 use Rattle.making.specs.Results.{fit_by}
@@ -25,7 +25,6 @@ use Rattle.fitting.specs.Jobs.{HasJob, HasKnots, direction_of, flat_region, pole
 use Rattle.making.specs.Runs.{marked_as, HasSaved, places_of, saved_end, CopiesFit, FitCopied, Saved, Restored, Makes, Made}
 use Rattle.fitting.proofs.AttemptLaws.{lines_fewer, has_job-kept, direction-kept, pole-count}
 use Rattle.making.proofs.MakeLaws.{stands_here, makes_later}
-use Rattle.std.specs.Prelude.{Ok}
 
 -- ---- the two copies
 
@@ -81,18 +80,6 @@ module _ {j : Job} {l saved : ℕ} {w : List Float} (has : HasSaved j saved w) (
   poles_before : j.poles + places_of j l ≤ saved
   poles_before = omega (arith, few-places, has.poles_inside, has.behind)
 
-  pub saves : CopiesFit l (places_of j l) j.flat j.poles saved (saved + l) (length w)
-  saves =
-      record {
-        knots_apart = inl (omega (arith, knots_before, poles_before));
-        poles_apart = inl (omega (arith, poles_before));
-        poles_stay = inl poles_before;
-        order = omega arith;
-        knots_inside = omega (arith, knots_before, poles_before, saved-fits);
-        poles_inside = omega (arith, poles_before, saved-fits);
-        room = saved-fits;
-      }
-
   pub restores : CopiesFit l (places_of j l) saved (saved + l) j.flat j.poles (length w)
   restores =
       record {
@@ -127,14 +114,11 @@ module _ {j : Job} {points w : List Float} {index : List ℕ} {l saved : ℕ} (h
   same_put : direction_of j points w₁ index ≡ d
   same_put = direction-kept j points w w₁ index index (length w) j.table.firsts has kept_put firstly
 
-  module _ {t : Float} {w₂ : List Float} {index₂ : List ℕ} {r : Reached} (x : SpreadsBelow j points t (l - j.table.degree - 1) w₁ w₂ index index₂ r) where
+  module _ {t : Float} {w₂ : List Float} {index₂ : List ℕ} {r : Option Reached} (x : SpreadsBelow j points t (l - j.table.degree - 1) w₁ w₂ index index₂ r) where
     kept_searched : Kept j.flat (length w) w w₂
     kept_searched =
         kept_then j.flat (length w) w w₁ w₂ kept_put
         (kept_wider j.flat (j.fresh + j.table.count) j.flat (length w) w₁ w₂ (omega arith) has.fresh_in x.reaches.kept)
-
-    pub has_searched : HasSaved j saved w₂
-    has_searched = record { knots_inside = room.knots_inside; poles_inside = room.poles_inside; behind = room.behind; room = omega (arith, room.room, kept_searched.long) }
 
     fewer_is : fewer_or d t (some fit) ≡ spread_in j.table.degree (refined fit) r (λ (k : ℕ). candidate_in j points k w₂ index₂)
     unfolding fewer_or candidate_in candidate direction_of
@@ -143,13 +127,13 @@ module _ {j : Job} {points w : List Float} {index : List ℕ} {l saved : ℕ} (h
         ∙ ap (λ (v : Direction). fit_on_spread_knots v t (l - j.table.degree - 1) (refined fit)) (sym same_put)
         ∙ x.answer (refined fit)
 
-    pub fewer_met : (k : ℕ) (z : Measured) → r ≡ Met k z
-        → Makes j points (Ok (fewer_or d t (some fit))) w w₂ index index₂ (Ok (record { mark = Spread z.largest; flat = k; unreadable = z.unreadable }))
+    pub fewer_met : (f : Reached) → r ≡ Some f
+        → Makes j points (Ok (fewer_or d t (some fit))) w w₂ index index₂ (Ok (record { mark = Spread f.measured.largest; flat = f.flat; unreadable = f.measured.unreadable }))
     unfolding spread_in marked_as
-    fewer_met k z e =
-        stands_here (Spread z.largest) k z
-        (ap Ok (fewer_is ∙ ap (λ (b : Reached). spread_in j.table.degree (refined fit) b (λ (i : ℕ). candidate_in j points i w₂ index₂)) e)) refl
-        (x.reaches.few k z e) (x.reaches.measures k z e) x.reaches.firsts kept_searched
+    fewer_met f e =
+        stands_here (Spread f.measured.largest) f.flat f.measured
+        (ap Ok (fewer_is ∙ ap (λ (b : Option Reached). spread_in j.table.degree (refined fit) b (λ (i : ℕ). candidate_in j points i w₂ index₂)) e)) refl
+        (rw e at x.reaches.few) (rw e at x.reaches.measures) x.reaches.firsts kept_searched
 
     module _ {w₃ : List Float} (back : Restored j l saved w₂ w₃) where
       kept_back : Kept j.flat (length w) w w₃
@@ -179,17 +163,17 @@ module _ {j : Job} {points w : List Float} {index : List ℕ} {l saved : ℕ} (h
           ∙ ap (λ (v : List Float). candidate d v (table_on d v) (poles_in j l w₃)) flat_back
           ∙ ap (candidate d (flat_region j l w) (table_on d (flat_region j l w))) poles-back
 
-      pub fewer_missed : r ≡ Missed → (y : Measured) → y ≡ measured fit.distances
+      pub fewer_missed : r ≡ None → (y : Measured) → y ≡ measured fit.distances
           → Makes j points (Ok (fewer_or d t (some fit))) w w₃ index index₂ (Ok (record { mark = Refined y.largest; flat = l; unreadable = y.unreadable }))
       unfolding spread_in marked_as
       fewer_missed e y m =
           stands_here (Refined y.largest) l y
-          (ap Ok (fewer_is ∙ ap (λ (b : Reached). spread_in j.table.degree (refined fit) b (λ (i : ℕ). candidate_in j points i w₂ index₂)) e ∙ ap refined (sym fit-back))) refl
+          (ap Ok (fewer_is ∙ ap (λ (b : Option Reached). spread_in j.table.degree (refined fit) b (λ (i : ℕ). candidate_in j points i w₂ index₂)) e ∙ ap refined (sym fit-back))) refl
           knots (m ∙ ap (λ (f : Candidate). measured f.distances) (sym fit-back)) x.reaches.firsts kept_back
 
 -- ---- after refinement
 
-module _ {j : Job} {points w : List Float} {index : List ℕ} (has : HasJob j points w index) {t : Float} {w₁ : List Float} {index₁ : List ℕ} {r : Reached} (x : RefinesWithin j points t w w₁ index index₁ r) where
+module _ {j : Job} {points w : List Float} {index : List ℕ} (has : HasJob j points w index) {t : Float} {w₁ : List Float} {index₁ : List ℕ} {r : Option Reached} (x : RefinesWithin j points t w w₁ index index₁ r) where
   abbrev far : Kept j.flat (length w) w w₁
   far = kept_wider j.flat (j.fresh + j.table.count) j.flat (length w) w w₁ (omega arith) has.fresh_in x.reaches.kept
 
@@ -206,21 +190,21 @@ module _ {j : Job} {points w : List Float} {index : List ℕ} (has : HasJob j po
   unfolding fit_within_fewest
   fewest_is = ap (fewer_or (direction_of j points w index) t) x.answer
 
-  pub fewest_missed : r ≡ Missed → {w' : List Float} {index' : List ℕ} {a : Made} → Makes j points (fit_by (SearchSpread t) (direction_of j points w₁ index₁)) w₁ w' index₁ index' a
+  pub fewest_missed : r ≡ None → {w' : List Float} {index' : List ℕ} {a : Made} → Makes j points (fit_by (SearchSpread t) (direction_of j points w₁ index₁)) w₁ w' index₁ index' a
       → Makes j points (Ok (fit_within_fewest (direction_of j points w index) t)) w w' index index' a
   unfolding fit_by refined_in fewer_or
   fewest_missed e y =
       makes_later y
-      (ap Ok (fewest_is ∙ ap (λ (b : Reached). fewer_or (direction_of j points w index) t (refined_in b (λ (l : ℕ). candidate_in j points l w₁ index₁))) e)
+      (ap Ok (fewest_is ∙ ap (λ (b : Option Reached). fewer_or (direction_of j points w index) t (refined_in b (λ (l : ℕ). candidate_in j points l w₁ index₁))) e)
       ∙ ap (λ (v : Direction). Ok (spread_alone v t)) (sym same-refined))
       x.reaches.firsts far
 
-  pub fewest_met : (l : ℕ) (z : Measured) → r ≡ Met l z → {w' : List Float} {index' : List ℕ} {a : Made}
-      → Makes j points (Ok (fewer_or (direction_of j points w₁ index₁) t (some (candidate_in j points l w₁ index₁)))) w₁ w' index₁ index' a
+  pub fewest_met : (f : Reached) → r ≡ Some f → {w' : List Float} {index' : List ℕ} {a : Made}
+      → Makes j points (Ok (fewer_or (direction_of j points w₁ index₁) t (some (candidate_in j points f.flat w₁ index₁)))) w₁ w' index₁ index' a
       → Makes j points (Ok (fit_within_fewest (direction_of j points w index) t)) w w' index index' a
   unfolding refined_in
-  fewest_met l z e y =
+  fewest_met f e y =
       makes_later y
-      (ap Ok (fewest_is ∙ ap (λ (b : Reached). fewer_or (direction_of j points w index) t (refined_in b (λ (i : ℕ). candidate_in j points i w₁ index₁))) e)
-      ∙ ap (λ (v : Direction). Ok (fewer_or v t (some (candidate_in j points l w₁ index₁)))) (sym same-refined))
+      (ap Ok (fewest_is ∙ ap (λ (b : Option Reached). fewer_or (direction_of j points w index) t (refined_in b (λ (i : ℕ). candidate_in j points i w₁ index₁))) e)
+      ∙ ap (λ (v : Direction). Ok (fewer_or v t (some (candidate_in j points f.flat w₁ index₁)))) (sym same-refined))
       x.reaches.firsts far

@@ -16,7 +16,7 @@ ghost use Rattle.making.specs.Runs.{HasSaved, CopiesFit, FitCopied, Makes};
 
 use bspline::Refusal;
 use checks::{Aim, Call};
-use fitting::{Attempt, Job, Mark, Reached};
+use fitting::{Job, Mark, Reached};
 use tables::Measured;
 
 // A fit that stands in its job's regions: its mark, how many flat knots it has, and how many of its deviations are unreadable.
@@ -54,8 +54,8 @@ fn make_chosen(
         work.old work.new index.old index.new result }
 {
     match fitting::attempts::attempt_spread(work, index, points, job, count) {
-        Attempt::Unfitted => Err(Refusal::PoleCountMismatch),
-        Attempt::Fitting(m) => Ok(Standing {
+        None => Err(Refusal::PoleCountMismatch),
+        Some(m) => Ok(Standing {
             mark: Mark::Chosen(m.largest),
             flat: count + job.table.degree + 1,
             unreadable: m.unreadable,
@@ -77,11 +77,11 @@ fn make_spread(
 {
     let last = job.table.count;
     match fitting::counts::fit_on_spread_knots(work, index, points, job, tolerance, last) {
-        Reached::Missed => make_through(work, index, points, job),
-        Reached::Met(l, m) => Ok(Standing {
-            mark: Mark::Spread(m.largest),
-            flat: l,
-            unreadable: m.unreadable,
+        None => make_through(work, index, points, job),
+        Some(Reached { flat, measured }) => Ok(Standing {
+            mark: Mark::Spread(measured.largest),
+            flat,
+            unreadable: measured.unreadable,
         }),
     }
 }
@@ -99,11 +99,11 @@ fn make_within(
         work.old work.new index.old index.new result }
 {
     match fitting::refining::fit_with_refined_knots(work, index, points, job, tolerance) {
-        Reached::Missed => make_spread(work, index, points, job, tolerance),
-        Reached::Met(l, m) => Ok(Standing {
-            mark: Mark::Refined(m.largest),
-            flat: l,
-            unreadable: m.unreadable,
+        None => make_spread(work, index, points, job, tolerance),
+        Some(Reached { flat, measured }) => Ok(Standing {
+            mark: Mark::Refined(measured.largest),
+            flat,
+            unreadable: measured.unreadable,
         }),
     }
 }
@@ -146,7 +146,7 @@ fn make_fewer(
     let n = 3 * (job.given.lines * below);
     copy_fit(work, l, n, job.flat, job.poles, saved, saved + l);
     match fitting::counts::fit_on_spread_knots(work, index, points, job, tolerance, below) {
-        Reached::Missed => {
+        None => {
             copy_fit(work, l, n, saved, saved + l, job.flat, job.poles);
             Ok(Standing {
                 mark: Mark::Refined(refined.largest),
@@ -154,10 +154,10 @@ fn make_fewer(
                 unreadable: refined.unreadable,
             })
         }
-        Reached::Met(k, m) => Ok(Standing {
-            mark: Mark::Spread(m.largest),
-            flat: k,
-            unreadable: m.unreadable,
+        Some(Reached { flat, measured }) => Ok(Standing {
+            mark: Mark::Spread(measured.largest),
+            flat,
+            unreadable: measured.unreadable,
         }),
     }
 }
@@ -176,8 +176,10 @@ fn make_fewest(
         work.old work.new index.old index.new result }
 {
     match fitting::refining::fit_with_refined_knots(work, index, points, job, tolerance) {
-        Reached::Missed => make_spread(work, index, points, job, tolerance),
-        Reached::Met(l, m) => make_fewer(work, index, points, job, tolerance, saved, l, m),
+        None => make_spread(work, index, points, job, tolerance),
+        Some(Reached { flat, measured }) => {
+            make_fewer(work, index, points, job, tolerance, saved, flat, measured)
+        }
     }
 }
 

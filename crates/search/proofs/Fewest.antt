@@ -6,29 +6,29 @@ use mathlib.Core.Bool.{Bool, true, false, cond, true≢false}
 use Prim.Native.Nat.{ℕ, zero, suc, ◌-◌, ◌≤◌, ◌<◌}
 use native.Mathlib.Omega.{arith}
 use lib.Dec.{leb, ltb}
+use Rattle.std.specs.Prelude.{Some, None}
 use borrow.Author.Tests.{ltb-true, ltb-false, leb-true, leb-false, lt-ltb}
 use Rattle.search.specs.declared.Search.{Search}
-use Rattle.search.specs.declared.Found.TheVariants.{At, Nothing}
 use Rattle.search.specs.Search.{start, width, count_of, turn, turns, answer, fewest}
 use Rattle.search.proofs.SearchLaws.{Holds, start_holds, turns_hold, turns_over, turns_narrow, turn_holds, turn_over, turn-fitted, turn_failed, turn_cases, between}
 
 -- ---- the answer by its two cases
-pub answer_at : (last : ℕ) (s : Search) (c : ℕ) → answer last s ≡ At c → (s.high < last) × (s.high ≡ c)
-answer_at last s c e = go (ltb s.high last) refl e
+pub answer-some : (last : ℕ) (s : Search) (c : ℕ) → answer last s ≡ Some c → (s.high < last) × (s.high ≡ c)
+answer-some last s c e = go (ltb s.high last) refl e
   where
-    go : (b : Bool) → ltb s.high last ≡ b → cond b (At s.high) Nothing ≡ At c → (s.high < last) × (s.high ≡ c)
+    go : (b : Bool) → ltb s.high last ≡ b → cond b (Some s.high) None ≡ Some c → (s.high < last) × (s.high ≡ c)
     go true f e = (ltb-true _ _ f, cc)
     go false f e = let z : ◌≡◌ {A = ℕ} 0 1 = cc in omega arith
 
-pub answer-nothing : (last : ℕ) (s : Search) → answer last s ≡ Nothing → last ≤ s.high
-answer-nothing last s e = go (ltb s.high last) refl e
+pub answer-none : (last : ℕ) (s : Search) → answer last s ≡ None → last ≤ s.high
+answer-none last s e = go (ltb s.high last) refl e
   where
-    go : (b : Bool) → ltb s.high last ≡ b → cond b (At s.high) Nothing ≡ Nothing → last ≤ s.high
+    go : (b : Bool) → ltb s.high last ≡ b → cond b (Some s.high) None ≡ None → last ≤ s.high
     go true f e = let z : ◌≡◌ {A = ℕ} 0 1 = cc in omega arith
     go false f e = ltb-false _ _ f
 
-pub at-answer : (last : ℕ) (s : Search) → s.high < last → answer last s ≡ At s.high
-at-answer last s h = rw (lt-ltb _ _ h)
+pub answer_below : (last : ℕ) (s : Search) → s.high < last → answer last s ≡ Some s.high
+answer_below last s h = rw (lt-ltb _ _ h)
 
 -- ---- where the search ends
 pub final : (ℕ → Bool) → ℕ → ℕ → Search
@@ -52,13 +52,13 @@ module _ (passes : ℕ → Bool) (degree last : ℕ) where
   final_empty h = turns_over passes degree last last (start degree last) (omega arith)
 
   -- no count to try: nothing is found
-  pub found_below : (c : ℕ) → fewest passes degree last ≡ At c → degree < last
+  pub found_below : (c : ℕ) → fewest passes degree last ≡ Some c → degree < last
   found_below c e = go (ltb degree last) refl
     where
       go : (b : Bool) → ltb degree last ≡ b → degree < last
       go true f = ltb-true _ _ f
       go false f =
-          let a = answer_at last (final passes degree last) c (sym final-answer ∙ e) in
+          let a = answer-some last (final passes degree last) c (sym final-answer ∙ e) in
           let h : last < last = rw (final_empty (ltb-false _ _ f)) at a.0 in
           omega arith
 
@@ -69,11 +69,11 @@ pub record IsFound (passes : ℕ → Bool) (degree last c : ℕ) : Type 0 where
   pub passed : passes c ≡ true
   pub failed-below : degree < c - 1 → passes (c - 1) ≡ false
 
-pub found : (passes : ℕ → Bool) (degree last c : ℕ) → fewest passes degree last ≡ At c → IsFound passes degree last c
+pub found : (passes : ℕ → Bool) (degree last c : ℕ) → fewest passes degree last ≡ Some c → IsFound passes degree last c
 found passes degree last c e =
     let l = found_below passes degree last c e in
     let s = final passes degree last in
-    let a = answer_at last s c (sym (final-answer passes degree last) ∙ e) in
+    let a = answer-some last s c (sym (final-answer passes degree last) ∙ e) in
     subst (IsFound passes degree last) a.1 (here s (final_holds passes degree last l) (final_narrow passes degree last l) a.0)
   where
     here : (s : Search) → Holds passes degree last s → width s ≤ 1 → s.high < last → IsFound passes degree last s.high
@@ -88,13 +88,13 @@ found passes degree last c e =
         }
 
 -- (b) where nothing is found the largest count fails
-pub nothing : (passes : ℕ → Bool) (degree last : ℕ) → fewest passes degree last ≡ Nothing → degree < last - 1 → passes (last - 1) ≡ false
+pub nothing : (passes : ℕ → Bool) (degree last : ℕ) → fewest passes degree last ≡ None → degree < last - 1 → passes (last - 1) ≡ false
 nothing passes degree last e d =
     let l : degree < last = omega arith in
     let s = final passes degree last in
     let h = final_holds passes degree last l in
     let n = final_narrow passes degree last l in
-    let a = answer-nothing last s (sym (final-answer passes degree last) ∙ e) in
+    let a = answer-none last s (sym (final-answer passes degree last) ∙ e) in
     let q : last - 1 ≡ s.low = omega (arith, h.apart, h.below) in
     rw q (h.fails (rw q at d))
 
@@ -140,15 +140,15 @@ module _ (first second : ℕ → Bool) (more : (c : ℕ) → first c ≡ true �
   beside_final l =
       beside-turns last (start degree last) (start degree last) (start_holds first degree last l) (start_holds second degree last l) (inl refl)
 
-  pub fewest_monotone : (c : ℕ) → fewest first degree last ≡ At c → (d : ℕ) × (fewest second degree last ≡ At d) × (d ≤ c)
+  pub fewest_monotone : (c : ℕ) → fewest first degree last ≡ Some c → (d : ℕ) × (fewest second degree last ≡ Some d) × (d ≤ c)
   fewest_monotone c e =
       let l = found_below first degree last c e in
-      let a = answer_at last (final first degree last) c (sym (final-answer first degree last) ∙ e) in
+      let a = answer-some last (final first degree last) c (sym (final-answer first degree last) ∙ e) in
       ends (final first degree last) (final second degree last) (final_holds first degree last l) a.0 a.1 (final-answer second degree last) (beside_final l)
     where
       ends : (s t : Search) → Holds first degree last s → s.high < last → s.high ≡ c → fewest second degree last ≡ answer last t → Beside s t
-          → (d : ℕ) × (fewest second degree last ≡ At d) × (d ≤ c)
+          → (d : ℕ) × (fewest second degree last ≡ Some d) × (d ≤ c)
       ends s t h b q f (inl r) =
           let k : t.high ≡ s.high = ap (λ (u : Search). u.high) (sym r) in
-          (t.high, f ∙ at-answer last t (omega arith), omega arith)
-      ends s t h b q f (inr r) = (t.high, f ∙ at-answer last t (omega (arith, h.apart)), omega (arith, h.apart))
+          (t.high, f ∙ answer_below last t (omega arith), omega arith)
+      ends s t h b q f (inr r) = (t.high, f ∙ answer_below last t (omega (arith, h.apart)), omega (arith, h.apart))

@@ -5,9 +5,9 @@ use mathlib.Core.Bool.{Bool, true, false, cond}
 use Prim.Native.Nat.{ℕ, zero, suc, ◌+◌, ◌*◌, ◌/◌, ◌≤◌, ◌<◌}
 use native.Mathlib.Omega.{arith}
 use lib.Dec.{leb}
+use Rattle.std.specs.Prelude.{Some, None}
 use borrow.Author.Tests.{ltb-true, leb-true, leb-false, le-leb, lt-leb}
 use Rattle.search.specs.declared.Search.{Search}
-use Rattle.search.specs.declared.Next.TheVariants.{Try, Done}
 use Rattle.search.specs.Bounds.{Bounded}
 use Rattle.search.specs.Search.{start, width, galloping, count_of, next_of, fitted_at, failed_at, turn, turns, answer, fewest}
 
@@ -136,30 +136,30 @@ module _ (passes : ℕ → Bool) (degree last : ℕ) where
   running_over s w r = ap (answer last) (sym (turns_over last s w) ∙ r.same)
 
 -- what `next_of` says
-pub next_try : (s : Search) (n : ℕ) → next_of s ≡ Try n → (1 < width s) × (n ≡ count_of s)
+pub next_try : (s : Search) (n : ℕ) → next_of s ≡ Some n → (1 < width s) × (n ≡ count_of s)
 next_try s n e = go (leb (width s) 1) refl e
   where
-    go : (b : Bool) → leb (width s) 1 ≡ b → cond b Done (Try (count_of s)) ≡ Try n → (1 < width s) × (n ≡ count_of s)
+    go : (b : Bool) → leb (width s) 1 ≡ b → cond b None (Some (count_of s)) ≡ Some n → (1 < width s) × (n ≡ count_of s)
     go true f e = let z : ◌≡◌ {A = ℕ} 0 1 = cc in omega arith
     go false f e = (leb-false _ _ f, cc)
 
-pub next_done : (s : Search) → next_of s ≡ Done → width s ≤ 1
+pub next_done : (s : Search) → next_of s ≡ None → width s ≤ 1
 next_done s e = go (leb (width s) 1) refl e
   where
-    go : (b : Bool) → leb (width s) 1 ≡ b → cond b Done (Try (count_of s)) ≡ Done → width s ≤ 1
+    go : (b : Bool) → leb (width s) 1 ≡ b → cond b None (Some (count_of s)) ≡ None → width s ≤ 1
     go true f e = leb-true _ _ f
     go false f e = let z : ◌≡◌ {A = ℕ} 0 1 = cc in omega arith
 
 -- ---- a loop over `next`: what holds of the count that it gives
 
-pub try_between : (s : Search) (n : ℕ) → 1 ≤ s.step → next_of s ≡ Try n → (s.low < n) × (n < s.high)
+pub try_between : (s : Search) (n : ℕ) → 1 ≤ s.step → next_of s ≡ Some n → (s.low < n) × (n < s.high)
 try_between s n p e = let t = next_try s n e in rw t.1 (between s p t.0)
 
 -- the measure falls, either way
-pub fitted_narrower : (s : Search) (n : ℕ) → 1 ≤ s.step → next_of s ≡ Try n → width (fitted_at s n) < width s
+pub fitted_narrower : (s : Search) (n : ℕ) → 1 ≤ s.step → next_of s ≡ Some n → width (fitted_at s n) < width s
 fitted_narrower s n p e = let b = try_between s n p e in omega (arith, b.0, b.1)
 
-pub failed_narrower : (s : Search) (n : ℕ) → 1 ≤ s.step → next_of s ≡ Try n → width (failed_at s n) < width s
+pub failed_narrower : (s : Search) (n : ℕ) → 1 ≤ s.step → next_of s ≡ Some n → width (failed_at s n) < width s
 failed_narrower s n p e = let b = try_between s n p e in omega (arith, b.0, b.1)
 
 -- what the arithmetic wants
@@ -169,21 +169,21 @@ module _ (passes : ℕ → Bool) (degree last : ℕ) where
       record { rises = r.holds.steps; apart = omega (arith, r.holds.apart); small = omega (arith, r.holds.below) }
 
   -- a count to try lies above the degree and below `last`
-  pub running-count : (s : Search) (n : ℕ) → next_of s ≡ Try n → Running passes degree last s → (degree < n) × (n < last)
+  pub running-count : (s : Search) (n : ℕ) → next_of s ≡ Some n → Running passes degree last s → (degree < n) × (n < last)
   running-count s n e r =
       let b = try_between s n r.holds.steps e in
       (omega (arith, b.0, r.holds.above), omega (arith, b.1, r.holds.below))
 
   -- the invariant in words: from here the tries come to the same answer
-  pub try-fitted : (s : Search) (n : ℕ) → next_of s ≡ Try n → passes n ≡ true → Running passes degree last s → Running passes degree last (fitted_at s n)
+  pub try-fitted : (s : Search) (n : ℕ) → next_of s ≡ Some n → passes n ≡ true → Running passes degree last s → Running passes degree last (fitted_at s n)
   try-fitted s n e p r =
       let t = next_try s n e in
       rw t.1 (running-fitted passes degree last s t.0 (rw (← t.1) p) r)
 
-  pub try_failed : (s : Search) (n : ℕ) → next_of s ≡ Try n → passes n ≡ false → Running passes degree last s → Running passes degree last (failed_at s n)
+  pub try_failed : (s : Search) (n : ℕ) → next_of s ≡ Some n → passes n ≡ false → Running passes degree last s → Running passes degree last (failed_at s n)
   try_failed s n e p r =
       let t = next_try s n e in
       rw t.1 (running_failed passes degree last s t.0 (rw (← t.1) p) r)
 
-  pub running_done : (s : Search) → next_of s ≡ Done → Running passes degree last s → answer last s ≡ fewest passes degree last
+  pub running_done : (s : Search) → next_of s ≡ None → Running passes degree last s → answer last s ≡ fewest passes degree last
   running_done s e r = running_over passes degree last s (next_done s e) r

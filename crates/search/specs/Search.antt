@@ -2,12 +2,8 @@
 -- It looks for the fewest poles above `degree` and below `last` that pass a test: by steps of 1, 2, 4, .. up from the degree while they stay below `high`,
 -- then by halving. What it finds passes, and the count one below fails; it is the least of all only if passing is monotone in the count. `low` fails the test or is the degree; `high` passes it or is `last`, which is never tried.
 -- Once `low + step` reaches `high` it stays there, since `low` only rises and `high` only falls: so the three numbers say which phase it is.
-use Rattle.std.specs.Prelude.{ℕ, zero, suc, ◌+◌, ◌-◌, ◌*◌, ◌/◌, Bool, cond, List, [], ◌∷◌, leb, ltb}
+use Rattle.std.specs.Prelude.{ℕ, zero, suc, ◌+◌, ◌-◌, ◌*◌, ◌/◌, Bool, cond, List, [], ◌∷◌, leb, ltb, Option, Some, None}
 use Rattle.search.specs.declared.Search.{Search}
-use Rattle.search.specs.declared.Found.{Found}
-use Rattle.search.specs.declared.Found.TheVariants.{At, Nothing}
-use Rattle.search.specs.declared.Next.{Next}
-use Rattle.search.specs.declared.Next.TheVariants.{Try, Done}
 
 -- the search before its first try
 abbrev pub start : ℕ → ℕ → Search
@@ -24,9 +20,9 @@ galloping s = ltb s.step (width s)
 abbrev pub count_of : Search → ℕ
 count_of s = s.low + cond (galloping s) s.step (width s / 2)
 
--- the next try: the search is over where `low` and `high` are neighbours
-abbrev pub next_of : Search → Next
-next_of s = cond (leb (width s) 1) Done (Try (count_of s))
+-- the next count to try: none where `low` and `high` are neighbours, and the search is over
+abbrev pub next_of : Search → Option ℕ
+next_of s = cond (leb (width s) 1) None (Some (count_of s))
 
 -- the search after a count that passes, and after one that fails
 abbrev pub fitted_at : Search → ℕ → Search
@@ -44,12 +40,12 @@ unfoldable pub turns : (ℕ → Bool) → ℕ → Search → Search
 turns passes zero s = s
 turns passes (suc k) s = turns passes k (turn passes s)
 
--- what the search ends with
-abbrev pub answer : ℕ → Search → Found
-answer last s = cond (ltb s.high last) (At s.high) Nothing
+-- the count that the search ends with
+abbrev pub answer : ℕ → Search → Option ℕ
+answer last s = cond (ltb s.high last) (Some s.high) None
 
 -- `last` turns are enough: each narrows the search
-unfoldable pub fewest : (ℕ → Bool) → ℕ → ℕ → Found
+unfoldable pub fewest : (ℕ → Bool) → ℕ → ℕ → Option ℕ
 fewest passes degree last = answer last (turns passes last (start degree last))
 
 -- the counts tried, in order

@@ -14,20 +14,6 @@ pub struct Search {
     pub step: usize,
 }
 
-// The next pole count to try.
-#[derive(Clone, Copy)]
-pub enum Next {
-    Try(usize),
-    Done,
-}
-
-// The pole count that the search ends with.
-#[derive(Clone, Copy)]
-pub enum Found {
-    At(usize),
-    Nothing,
-}
-
 impl Search {
     pub fn new(degree: usize, last: usize) -> Search
         ensures { result ≡ start degree last }
@@ -39,21 +25,19 @@ impl Search {
         }
     }
 
-    // What to try next.
-    pub fn next(self) -> Next
+    // The next pole count to try; none where the search is over.
+    pub fn next(self) -> Option<usize>
         requires { Bounded self }
         ensures { result ≡ next_of self }
     {
-        let low = self.low;
-        let width = self.high - low;
+        let width = self.high - self.low;
         if width <= 1 {
-            return Next::Done;
+            None
+        } else if self.step < width {
+            Some(self.low + self.step)
+        } else {
+            Some(self.low + width / 2)
         }
-        let step = self.step;
-        if step < width {
-            return Next::Try(low + step);
-        }
-        Next::Try(low + width / 2)
     }
 
     // After a count that passes.
@@ -61,9 +45,8 @@ impl Search {
         ensures { result ≡ fitted_at self count }
     {
         Search {
-            low: self.low,
             high: count,
-            step: self.step,
+            ..self
         }
     }
 
@@ -72,29 +55,22 @@ impl Search {
         requires { Bounded self }
         ensures { result ≡ failed_at self count }
     {
-        let step = self.step;
-        if step < self.high - self.low {
-            return Search {
-                low: count,
-                high: self.high,
-                step: step * 2,
-            };
-        }
+        let step = if self.step < self.high - self.low {
+            self.step * 2
+        } else {
+            self.step
+        };
         Search {
             low: count,
-            high: self.high,
-            step: step,
+            step,
+            ..self
         }
     }
 
-    // What the search ended with, once there is nothing to try.
-    pub fn found(self, last: usize) -> Found
+    // The pole count that the search ended with, once there is nothing to try; none where no count below `last` passed.
+    pub fn found(self, last: usize) -> Option<usize>
         ensures { result ≡ answer last self }
     {
-        let high = self.high;
-        if high < last {
-            return Found::At(high);
-        }
-        Found::Nothing
+        (self.high < last).then_some(self.high)
     }
 }

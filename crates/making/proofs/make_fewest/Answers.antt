@@ -9,10 +9,10 @@ pub make_fewer-requires : goal.make_fewer-requires
 make_fewer-requires c =
     let p = c.requires in
     let f = c.fit_with_refined_knots.ensures in
-    (has-refined p.0 f, has_saved-refined p.0 f p.1, f.reaches.few c.in-Met.l c.in-Met.m c.in-Met.is, f.reaches.measures c.in-Met.l c.in-Met.m c.in-Met.is)
+    (has-refined p.0 f, has_saved-refined p.0 f p.1, c.in-Some.ensures.reaches.few, c.in-Some.ensures.reaches.measures)
 
-pub returns-in-Missed : goal.returns-in-Missed
-returns-in-Missed c = fewest_missed c.requires.0 c.fit_with_refined_knots.ensures c.in-Missed.is c.make_spread.ensures
+pub returns-in-None : goal.returns-in-None
+returns-in-None c = fewest_missed c.requires.0 c.fit_with_refined_knots.ensures c.in-None.is c.make_spread.ensures
 
-pub returns-in-Met : goal.returns-in-Met
-returns-in-Met c = fewest_met c.requires.0 c.fit_with_refined_knots.ensures c.in-Met.l c.in-Met.m c.in-Met.is c.make_fewer.ensures
+pub returns-in-Some : goal.returns-in-Some
+returns-in-Some c = fewest_met c.requires.0 c.fit_with_refined_knots.ensures _ c.in-Some.is c.make_fewer.ensures

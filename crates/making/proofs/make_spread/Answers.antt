@@ -10,8 +10,8 @@ make_through-requires c =
     let f = c.fit_on_spread_knots in
     has_job-kept a.job a.points.now a.work.now f.new.work a.index.now f.new.index (a.job.fresh + a.job.table.count) (a.job.table.firsts + a.job.table.count) c.requires f.ensures.reaches.kept f.ensures.reaches.firsts
 
-pub returns-in-Missed : goal.returns-in-Missed
-returns-in-Missed c = spread_missed c.requires c.fit_on_spread_knots.ensures c.in-Missed.is c.make_through.ensures
+pub returns-in-None : goal.returns-in-None
+returns-in-None c = spread_missed c.requires c.fit_on_spread_knots.ensures c.in-None.is c.make_through.ensures
 
-pub returns-in-Met : goal.returns-in-Met
-returns-in-Met c = spread_met c.requires c.fit_on_spread_knots.ensures c.in-Met.l c.in-Met.m c.in-Met.is
+pub returns-in-Some : goal.returns-in-Some
+returns-in-Some c = spread_met c.requires c.fit_on_spread_knots.ensures _ c.in-Some.is

@@ -3,14 +3,7 @@ use Rattle.fitting.proofs.AttemptLaws.{spread_attempt, attempts-spread}
 use Rattle.fitting.proofs.attempts.attempt_spread.Goals as goal
 
 pub attempt-requires : goal.attempt-requires
-attempt-requires c =
-    let a = c.args in
-    let k = c.approximation_knots in
-    spread_attempt a.job a.points.now a.work.now a.index.now c.requires.0 a.m c.requires.1 c.requires.2 k.new.work k.ensures
+attempt-requires c = spread_attempt _ _ _ _ c.requires.0 _ c.requires.1 c.requires.2 _ c.approximation_knots.ensures
 
 pub returns : goal.returns
-returns c =
-    let a = c.args in
-    let k = c.approximation_knots in
-    let t = c.attempt in
-    attempts-spread a.job a.points.now a.work.now a.index.now c.requires.0 a.m c.requires.1 c.requires.2 k.new.work k.ensures t.new.work t.new.index t.result t.ensures
+returns c = attempts-spread _ _ _ _ c.requires.0 _ c.requires.1 c.requires.2 _ c.approximation_knots.ensures _ _ _ c.attempt.ensures

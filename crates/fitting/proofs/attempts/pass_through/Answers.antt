@@ -4,24 +4,15 @@ use Rattle.fitting.proofs.attempts.pass_through.Goals as goal
 
 pub interpolation-requires : goal.interpolation-requires
 interpolation-requires c =
-    let a = c.args in
-    let k = c.averaged_knots in
-    let f = c.fill_table in
-    through_requires a.job a.points.now a.work.now a.index.now c.requires k.new.work k.ensures f.new.work f.new.index f.ensures.index_after f.ensures.work_after
+    let f = c.fill_table.ensures in
+    through_requires _ _ _ _ c.requires _ c.averaged_knots.ensures _ _ f.index_after f.work_after
 
 pub measure-requires : goal.measure-requires
 measure-requires c =
-    let a = c.args in
-    let k = c.averaged_knots in
-    let f = c.fill_table in
-    let q = c.interpolation in
-    through-measures a.job a.points.now a.work.now a.index.now c.requires k.new.work k.ensures f.new.work f.new.index f.ensures.index_after f.ensures.work_after q.new.work q.ensures
+    let f = c.fill_table.ensures in
+    through-measures _ _ _ _ c.requires _ c.averaged_knots.ensures _ _ f.index_after f.work_after _ c.interpolation.ensures
 
 pub returns : goal.returns
 returns c =
-    let a = c.args in
-    let k = c.averaged_knots in
-    let f = c.fill_table in
-    let q = c.interpolation in
-    let g = c.measure in
-    passes a.job a.points.now a.work.now a.index.now c.requires k.new.work k.ensures f.new.work f.new.index f.ensures.index_after f.ensures.work_after q.new.work q.ensures g.new.work g.result g.ensures
+    let f = c.fill_table.ensures in
+    passes _ _ _ _ c.requires _ c.averaged_knots.ensures _ _ f.index_after f.work_after _ c.interpolation.ensures _ _ c.measure.ensures

@@ -1,51 +1,44 @@
 -- Each turn of the loop is a round, which ends it or leaves more knots; so the rounds that are left always come to the definition's, and the knots left to add
 -- fall. Assumes nothing.
-use Rattle.fitting.specs.declared.Reached.TheVariants.{Missed, Met}
-use Rattle.fitting.proofs.RoundsLaws.{rounding_ended, rounding-fits, rounding-next, loop-start, loop_end}
 use native.Mathlib.Omega.{arith}
+use Rattle.fitting.proofs.RoundsLaws.{turn_unfitted, turn-fits, turn-regions, turn-stuck, turn-next, rounding_ended, rounding-fits, rounding-next, loop-start, loop_end}
 use Rattle.fitting.proofs.refining.fit_with_refined_knots.Goals as goal
 
-pub loop-m-init : goal.loop-m-init
-loop-m-init c =
-    let a = c.args in
-    let b = c.bezier_knots in
-    loop-start a.job a.points.now a.work.now a.index.now c.requires b.new.work b.ensures a.tolerance
+pub loop-measured-init : goal.loop-measured-init
+loop-measured-init c = loop-start c.requires c.bezier_knots.ensures _
 
-pub turn-requires : goal.turn-requires
-turn-requires c = (c.loop-m.invariant.has, c.loop-m.invariant.knots)
+pub returns-in_err-measured : goal.returns-in_err-measured
+returns-in_err-measured c =
+    let v = c.loop-measured.invariant in
+    rw c.from_residual.ensures (loop_end c.requires c.bezier_knots.ensures (rounding_ended _ _ _ _ _ v (turn_unfitted v.has v.knots _ c.in_err-measured.ensures)))
 
-pub returns-in-Ended : goal.returns-in-Ended
-returns-in-Ended c =
-    let a = c.args in
-    let b = c.bezier_knots in
-    let o = c.loop-m in
-    let x = c.turn in
-    loop_end a.job a.points.now a.work.now a.index.now c.requires b.new.work b.ensures a.tolerance x.new.work x.new.index Missed
-    (rounding_ended a.job a.points.now a.tolerance b.new.work a.index.now o.work o.index o.l o.invariant x.new.work x.new.index x.result x.ensures c.in-Ended.is)
+pub returns-then-measured-tolerance : goal.returns-then-measured-tolerance
+returns-then-measured-tolerance c =
+    let v = c.loop-measured.invariant in
+    loop_end c.requires c.bezier_knots.ensures
+    (rounding-fits _ _ _ _ _ v c.in_ok-measured.ensures.measures (turn-fits v.has v.knots _ c.in_ok-measured.ensures (cc)))
 
-pub returns-in-Fits : goal.returns-in-Fits
-returns-in-Fits c =
-    let a = c.args in
-    let b = c.bezier_knots in
-    let o = c.loop-m in
-    let x = c.turn in
-    loop_end a.job a.points.now a.work.now a.index.now c.requires b.new.work b.ensures a.tolerance x.new.work x.new.index (Met o.l c.in-Fits.m)
-    (rounding-fits a.job a.points.now a.tolerance b.new.work a.index.now o.work o.index o.l o.invariant x.new.work x.new.index x.result x.ensures c.in-Fits.m c.in-Fits.is)
+pub split_spans-requires : goal.split_spans-requires
+split_spans-requires c =
+    let v = c.loop-measured.invariant in
+    turn-regions v.has v.knots _ c.in_ok-measured.ensures
 
-pub loop-m-smaller : goal.loop-m-smaller
-loop-m-smaller c =
-    let a = c.args in
-    let b = c.bezier_knots in
-    let o = c.loop-m in
-    let x = c.turn in
-    let r = rounding-next a.job a.points.now a.tolerance b.new.work a.index.now o.work o.index o.l o.invariant x.new.work x.new.index x.result x.ensures c.in-Next.k c.in-Next.is in
-    omega (arith, r.0, r.1.knots.most)
+pub returns-in_err-split_spans : goal.returns-in_err-split_spans
+returns-in_err-split_spans c =
+    let v = c.loop-measured.invariant in
+    let q = c.split_spans in
+    rw c.from_residual.ensures (loop_end c.requires c.bezier_knots.ensures
+    (rounding_ended _ _ _ _ _ v (turn-stuck v.has v.knots _ c.in_ok-measured.ensures (cc) q.auto.firsts q.ensures (cc))))
 
-pub loop-m-preserved : goal.loop-m-preserved
-loop-m-preserved c =
-    let a = c.args in
-    let b = c.bezier_knots in
-    let o = c.loop-m in
-    let x = c.turn in
-    let r = rounding-next a.job a.points.now a.tolerance b.new.work a.index.now o.work o.index o.l o.invariant x.new.work x.new.index x.result x.ensures c.in-Next.k c.in-Next.is in
-    r.1
+pub loop-measured-smaller : goal.loop-measured-smaller
+loop-measured-smaller c =
+    let v = c.loop-measured.invariant in
+    let q = c.split_spans in
+    let n = turn-next v.has v.knots _ c.in_ok-measured.ensures (cc) q.auto.firsts q.ensures (cc) in
+    omega (arith, n.0, n.1)
+
+pub loop-measured-preserved : goal.loop-measured-preserved
+loop-measured-preserved c =
+    let v = c.loop-measured.invariant in
+    let q = c.split_spans in
+    rounding-next _ _ _ _ _ v (turn-next v.has v.knots _ c.in_ok-measured.ensures (cc) q.auto.firsts q.ensures (cc))

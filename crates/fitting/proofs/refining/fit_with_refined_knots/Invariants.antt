@@ -4,8 +4,8 @@ use Prim.Native.Nat.{◌+◌, ◌-◌}
 use Rattle.fitting.proofs.RoundsLaws.{Rounding}
 use Rattle.fitting.proofs.refining.fit_with_refined_knots.Given as goal
 
-abbrev pub invariant-loop-m : goal.invariant-loop-m
-invariant-loop-m l = Rounding l.job l.points l.tolerance l.initial.work l.initial.index l.work l.index l.l
+abbrev pub invariant-loop-measured : goal.invariant-loop-measured
+invariant-loop-measured l = Rounding l.job l.points l.tolerance l.initial.work l.initial.index l.work l.index l.flat
 
-abbrev pub decreases-loop-m : goal.decreases-loop-m
-decreases-loop-m l = l.job.table.count + l.job.table.degree + 2 - l.l
+abbrev pub decreases-loop-measured : goal.decreases-loop-measured
+decreases-loop-measured l = l.job.table.count + l.job.table.degree + 2 - l.flat
