@@ -13,7 +13,6 @@ use Rattle.places.proofs.RegionLaws.{length_part, part-splice}
 use Rattle.geometry.specs.Doubles.{largest}
 use Rattle.knots.specs.Knots.{bezier_knots}
 use Rattle.knots.proofs.KnotLaws.{length_bezier}
-use Rattle.geometry.specs.Root.{roots_of}
 use Rattle.tables.specs.declared.Measured.{Measured}
 use Rattle.tables.specs.Deviations.{largest_within}
 use Rattle.tables.specs.Directions.{Direction}
@@ -193,7 +192,7 @@ module _ {j : Job} {points w : List Float} {index : List ℕ} (has : HasJob j po
           rw (p, firsts_are, x.deviations, most_is, q)
 
       -- a round of splitting on this fit
-      module _ (beyond : le y.largest t ≡ false) {w₂ : List Float} {ends : List ℕ} (same : length ends ≡ length firsts) {r : Option ℕ} (z : Splits j l y.largest t firsts w₁ w₂ r) where
+      module _ (beyond : le y.largest t ≡ false) {w₂ : List Float} (ends : List ℕ) (same : length ends ≡ length firsts) {r : Option ℕ} (z : Splits j l y.largest t firsts w₁ w₂ r) where
         round_is : refinement_round d t (going flat) ≡ going_on (next_in j r w₂)
         round_is = round_beyond d t flat f fit_there (test_is ∙ beyond) ∙ ap going_on (sym next_is ∙ z.answer)
 

@@ -21,24 +21,24 @@ returns-then-measured-tolerance c =
 pub split_spans-requires : goal.split_spans-requires
 split_spans-requires c =
     let v = c.loop-measured.invariant in
-    turn-regions v.has v.knots _ c.in_ok-measured.ensures
+    turn-regions v.has v.knots c.args.tolerance c.in_ok-measured.ensures
 
-pub returns-in_err-split_spans : goal.returns-in_err-split_spans
-returns-in_err-split_spans c =
+pub returns-in_err-flat : goal.returns-in_err-flat
+returns-in_err-flat c =
     let v = c.loop-measured.invariant in
     let q = c.split_spans in
-    rw c.from_residual.ensures (loop_end c.requires c.bezier_knots.ensures
-    (rounding_ended _ _ _ _ _ v (turn-stuck v.has v.knots _ c.in_ok-measured.ensures (cc) q.auto.firsts q.ensures (cc))))
+    rw c.from_residual-in_err-flat.ensures (loop_end c.requires c.bezier_knots.ensures
+    (rounding_ended _ _ _ _ _ v (turn-stuck v.has v.knots _ c.in_ok-measured.ensures (cc) _ q.auto.firsts q.ensures c.in_err-flat.was)))
 
 pub loop-measured-smaller : goal.loop-measured-smaller
 loop-measured-smaller c =
     let v = c.loop-measured.invariant in
     let q = c.split_spans in
-    let n = turn-next v.has v.knots _ c.in_ok-measured.ensures (cc) q.auto.firsts q.ensures (cc) in
+    let n = turn-next v.has v.knots _ c.in_ok-measured.ensures (cc) _ q.auto.firsts q.ensures c.in_ok-flat.was in
     omega (arith, n.0, n.1)
 
 pub loop-measured-preserved : goal.loop-measured-preserved
 loop-measured-preserved c =
     let v = c.loop-measured.invariant in
     let q = c.split_spans in
-    rounding-next _ _ _ _ _ v (turn-next v.has v.knots _ c.in_ok-measured.ensures (cc) q.auto.firsts q.ensures (cc))
+    rounding-next _ _ _ _ _ v (turn-next v.has v.knots _ c.in_ok-measured.ensures (cc) _ q.auto.firsts q.ensures c.in_ok-flat.was)
