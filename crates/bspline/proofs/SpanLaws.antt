@@ -86,16 +86,13 @@ module _ (p : ℕ → Bool) (lo : ℕ) where
   pub last_with_cut : (n m k : ℕ) → n ≡ m + k → ((s : ℕ) → lo + m < s → s ≤ lo + n → p s ≡ false) → last_with p lo n ≡ last_with p lo m
   last_with_cut n m k q none = rw q (cut k m (λ s a b. none s a (omega arith)))
 
-  -- one that has the property is a new start
-  jump : (k m : ℕ) → 1 ≤ m → p (lo + m) ≡ true → last_with p lo (m + k) ≡ last_with p (lo + m) k
-  unfolding last_with
-  jump zero m h e = rw add-zero (last_with_here m (lo + m) h refl e)
-  jump (suc k) m h e =
-      let place : lo + suc (m + k) ≡ lo + m + suc k = omega arith in
-      rw (add-suc m k, place, jump k m h e)
-
-  pub last_with_jump : (n m k s : ℕ) → n ≡ m + k → 1 ≤ m → s ≡ lo + m → p s ≡ true → last_with p lo n ≡ last_with p s k
-  last_with_jump n m k s q h r e = rw (q, r) (jump k m h (rw (← r) e))
+  -- the place at which those with the property end
+  pub last_with-point : (m n : ℕ) → n ≤ m → ((s : ℕ) → lo < s → s ≤ lo + n → p s ≡ true) → ((s : ℕ) → lo + n < s → s ≤ lo + m → p s ≡ false) → last_with p lo m ≡ lo + n
+  last_with-point m n h with_p none = last_with_cut m n (m - n) (omega arith) none ∙ at_end n with_p
+    where
+      at_end : (n : ℕ) → ((s : ℕ) → lo < s → s ≤ lo + n → p s ≡ true) → last_with p lo n ≡ lo + n
+      at_end zero with_p = last_with-none zero refl ∙ omega arith
+      at_end (suc n) with_p = last_with_here (suc n) (lo + suc n) (omega arith) refl (with_p (lo + suc n) (omega arith) (omega arith))
 
   pub last_with_in : (n : ℕ) → (lo ≤ last_with p lo n) × (last_with p lo n ≤ lo + n)
   unfolding last_with
