@@ -96,6 +96,7 @@ fn paired_values(flat: &[f64], span: usize, degree: usize, u: f64, values: &mut 
 }
 
 // The basis functions of the degree that are not zero on the span, at u.
+#[inline(always)]
 pub fn basis_values(flat: &[f64], span: usize, degree: usize, u: f64, values: &mut [f64])
     requires { (degree ≤ span) × (span + degree < length flat.now) × (degree < length values.old) }
     ensures { values.new ≡ basis_at flat.now degree span u ++ drop (degree + 1) values.old }
