@@ -7,12 +7,8 @@ pub fn advance(flat: &[f64], degree: usize, span: usize, t: f64) -> usize
     requires { (degree ≤ span) × (span + degree + 2 ≤ length flat.now) }
     ensures { result ≡ span_on flat.now degree span t }
 {
-    let last = flat.len() - degree - 2;
-    let mut s = span;
-    while s < last && flat[s + 1] <= t {
-        s += 1;
-    }
-    s
+    let ends = &flat[span + 1..flat.len() - degree - 1];
+    span + ends.iter().take_while(|end| **end <= t).count()
 }
 
 // The last of the `count` spans from lo on that begins at or below u, found by halving: those that begin at or below u stand first.
