@@ -5,7 +5,7 @@ ghost use Rattle.places.specs.Places.{list_of};
 ghost use Rattle.geometry.specs.Doubles.{at};
 ghost use Rattle.bspline.specs.Basis.{left_of, right_of, row, basis_at};
 
-// The functions of degree j at u from those of degree j - 1, in place.
+// The functions of degree j at u from those of degree j - 1, in place: function r of degree j - 1 is not zero from the knot below[r] to above[r].
 fn raise(flat: &[f64], span: usize, u: f64, j: usize, values: &mut [f64])
     requires { (j ≤ span) × (span + j < length flat.now) × (j < length values.old) }
     ensures { values.new ≡ list_of (j + 1) (row (left_of flat.now span u) (right_of flat.now span u) (at values.old) j) ++ drop (j + 1) values.old }
@@ -23,7 +23,8 @@ fn raise(flat: &[f64], span: usize, u: f64, j: usize, values: &mut [f64])
     values[j] = saved;
 }
 
-// The functions of degree j + 1 at u from those of degree j - 1, in one pass and in place: a function of degree j is used where it is made and not stored.
+// The functions of degree j + 1 at u from those of degree j - 1, in one pass and in place: a function of degree j is used where it is made and not stored. Function r
+// of degree j is not zero from the knot below[r] to above[r], that of degree j - 1 from below[r + 1] on.
 fn raise_twice(flat: &[f64], span: usize, u: f64, j: usize, values: &mut [f64])
     requires { (j ≤ span) × (span + j + 1 < length flat.now) × (j + 1 < length values.old) }
     ensures { values.new ≡ list_of (j + 2) (row (left_of flat.now span u) (right_of flat.now span u)
@@ -95,7 +96,7 @@ fn paired_values(flat: &[f64], span: usize, degree: usize, u: f64, values: &mut 
     }
 }
 
-// The basis functions of the degree that are not zero on the span, at u.
+// The basis functions of the degree that are not zero on the span, at u. Inlined in the table's loop and in the reader, as the Rust's `basis_of_degree` is.
 #[inline(always)]
 pub fn basis_values(flat: &[f64], span: usize, degree: usize, u: f64, values: &mut [f64])
     requires { (degree ≤ span) × (span + degree < length flat.now) × (degree < length values.old) }
@@ -103,7 +104,7 @@ pub fn basis_values(flat: &[f64], span: usize, degree: usize, u: f64, values: &m
 {
     if degree == 3 {
         cubic_values(flat, span, u, values);
-        return;
+    } else {
+        paired_values(flat, span, degree, u, values);
     }
-    paired_values(flat, span, degree, u, values);
 }
