@@ -10,6 +10,7 @@ use lib.Dec.{T}
 use lib.ListN.{length}
 use lib.Ieee.{Float, binary64, lt, le, fits, is_nan}
 use lib.Ieee.Fits.{cond-fits}
+use Rattle.std.specs.Float.{float_clamp}
 use borrow.Author.Tests.{not-false}
 use Rattle.geometry.specs.Doubles.{at}
 use Rattle.geometry.proofs.FloatOrder.{lt-or-le, le_left, le_right, le_self, le_transitive, above-le, not-above, holds, test, refute}
@@ -27,6 +28,13 @@ module _ (flat : List Float) (rising : NeverFalls flat) where
 
   pub knots_order : (s k : ℕ) → s ≤ k → k < length flat → T (not (is_nan (at flat k))) → le (at flat s) (at flat k) ≡ true
   knots_order s k h l n = begins-down flat rising (at flat k) s k h l (holds (le (at flat k) (at flat k)) (le_self (at flat k) n))
+
+  -- the ends of the range are in order
+  pub range_order : (d : ℕ) → 2 * d + 2 ≤ length flat → le (first_parameter flat d) (last_parameter flat d) ≡ true
+  range_order d h =
+      let end = length flat - 1 - d in
+      let next : end - 1 + 1 ≡ end = omega arith in
+      begins-down flat rising (at flat end) d (end - 1) (omega arith) (omega arith) (rw next at (rising (end - 1) (omega arith)))
 
   -- ---- the fit's search, from span s on
   span_from_holds : (t : Float) (n s : ℕ) → s + n + 1 < length flat → le (at flat s) t ≡ true → le t (at flat (s + n + 1)) ≡ true → InSpan flat (span_from flat t n s) t
@@ -85,6 +93,15 @@ module _ (flat : List Float) (rising : NeverFalls flat) where
         (span_on_holds d (span_before flat d params k) (at params k) (span_before-in flat d params k h).1 (before_holds k l) (p.to k l))
 
 -- ---- a parameter moved into the range from a to b lies in it, and one that is there stays
+
+-- as the library's `clamp` has it
+pub clamp_is : (u a b : Float) → le a b ≡ true → float_clamp u a b ≡ clamp u a b
+unfolding clamp
+clamp_is u a b h = go (lt u a)
+  where
+    go : (s : Bool) → cond s a (cond (lt b u) b u) ≡ cond (lt b (cond s a u)) b (cond s a u)
+    go true = rw (not-above a b h)
+    go false = refl
 
 pub clamp-inside : (u a b : Float) → le a u ≡ true → le u b ≡ true → clamp u a b ≡ u
 unfolding clamp

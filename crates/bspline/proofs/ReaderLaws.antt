@@ -3,17 +3,18 @@ use Prim.Native.Nat.{ℕ, zero, suc, ◌+◌, ◌-◌, ◌≤◌, ◌<◌}
 use native.Mathlib.Omega.{arith}
 use native.Mathlib.Numerals.{add-one}
 use mathlib.Core.Path.{◌≡◌, refl, sym, ap, ◌∙◌, subst}
-use mathlib.Core.List.{List, [], ◌++◌}
+use mathlib.Core.List.{List, [], ◌++◌, append_assoc}
 use lib.ListN.{length, drop, replicate, drop_of_length-le, length-append, length-replicate, get_or-replicate, get_or-append}
-use lib.Seq.{get_or-append-add}
+use lib.Seq.{drop-cons, drop-drop, take_at, drop_at, get_or-append-add}
 use lib.Dec.{T}
 use mathlib.Core.Bool.{true, false, not}
 use mathlib.Core.Logic.{⊎_elim}
 use native.Mathlib.Nat.{not-suc-le-zero}
 use lib.Ieee.{Float, nan, le, is_nan}
-use Rattle.places.specs.Places.{joined, laid}
+use Rattle.places.specs.Places.{joined}
+use Rattle.places.specs.Regions.{splice}
+use Rattle.places.proofs.PlaceLaws.{joined-more, le-or-lt}
 use Rattle.std.proofs.lemmas.List.Sums.{sum_by-drop_more}
-use Rattle.places.proofs.PlaceLaws.{joined-more, laid_run, le-or-lt}
 use Rattle.geometry.specs.Doubles.{at}
 use Rattle.geometry.proofs.FloatOrder.{holds, le_self, le_transitive, above-le}
 use Rattle.bspline.specs.Spans.{NeverFalls}
@@ -40,26 +41,22 @@ pub flat_start : (knots : List Float) (mults : List ℕ) (out : List Float) → 
 unfolding joined
 flat_start knots mults out = record { ends = refl; left = omega arith; laid_to = refl }
 
-pub flat-next : (knots : List Float) (mults : List ℕ) (out₀ out out' : List Float) (end k : ℕ) → k < length mults → sum_of mults ≤ length out₀
-    → FlatTo knots mults out₀ out end k
-    → out' ≡ laid end (multiplicity mults k) (λ (j : ℕ). at knots k) out
-    → FlatTo knots mults out₀ out' (end + multiplicity mults k) (k + 1)
-flat-next knots mults out₀ out out' end k h room p put =
+-- a run more: m places hold x
+pub flat-next : (knots : List Float) (mults : List ℕ) (out₀ out : List Float) (end k : ℕ) → k < length mults → sum_of mults ≤ length out₀
+    → FlatTo knots mults out₀ out end k → (m : ℕ) (x : Float) → m ≡ multiplicity mults k → x ≡ at knots k
+    → FlatTo knots mults out₀ (splice end (end + m) (replicate m x) out) (end + m) (k + 1)
+flat-next knots mults out₀ out end k h room p m x m_is x_is =
     let xs = joined k (run_of knots mults) in
-    let m = multiplicity mults k in
+    let run = replicate m x in
     let step = sum_step mults k h in
-    let more : joined (k + 1) (run_of knots mults) ≡ xs ++ replicate m (at knots k) = joined-more k (run_of knots mults) in
-    let here : end ≡ length xs = p.ends in
-    let long : length (replicate m (at knots k)) ≡ m = length-replicate m (at knots k) in
+    let more : joined (k + 1) (run_of knots mults) ≡ xs ++ run = joined-more k (run_of knots mults) ∙ rw (m_is, x_is) refl in
+    let long : length run ≡ m = length-replicate m x in
+    let width : end + m - end ≡ m = omega arith in
     record {
-      ends = sym (ap length more ∙ length-append xs (replicate m (at knots k)) ∙ omega arith);
-      left = omega (arith, p.left, step);
-      laid_to = put
-          ∙ ap (laid end m (λ (j : ℕ). at knots k)) p.laid_to
-          ∙ ap (λ (e : ℕ). laid e m (λ (j : ℕ). at knots k) (xs ++ drop e out₀)) here
-          ∙ laid_run m (at knots k) xs out₀ (omega (arith, p.left, step))
-          ∙ ap (λ (e : ℕ). (xs ++ replicate m (at knots k)) ++ drop (e + m) out₀) (sym here)
-          ∙ ap (λ (l : List Float). l ++ drop (end + m) out₀) (sym more);
+      ends = sym (ap length more ∙ length-append xs run ∙ omega (arith, p.ends, long));
+      left = omega (arith, p.left, step, m_is);
+      laid_to = ap (splice end (end + m) run) p.laid_to
+          ∙ (rw (width, take_at xs (drop end out₀) end (sym p.ends), drop_at xs (drop end out₀) end (sym p.ends), drop-drop m end out₀, more) (sym (append_assoc xs run _)));
     }
 
 pub flat_end : (knots : List Float) (mults : List ℕ) (out₀ out : List Float) (end k : ℕ) → k ≡ length knots → length mults ≤ k

@@ -6,27 +6,26 @@ use native.Mathlib.Nat.{add-zero, add-suc}
 use mathlib.Core.Path.{◌≡◌, refl, sym, ap, ◌∙◌}
 use mathlib.Core.Bool.{Bool, true, false, cond, ◌&&◌}
 use mathlib.Core.List.{List}
-use lib.Ieee.{Float, le}
-use lib.ListN.{length}
+use lib.Ieee.{Float, nan, le}
+use lib.ListN.{length, take, drop}
+use lib.Seq.{drop-cons}
+use Rattle.std.specs.List.{prefix_len}
 use Rattle.geometry.specs.Doubles.{at}
 use Rattle.geometry.proofs.FloatOrder.{le_transitive}
 use Rattle.bspline.specs.Spans.{span_from, span_on, span_before, last_with, begins, wide, NeverFalls, span_of}
 
 module _ (flat : List Float) (t : Float) where
-  -- a span that ends at or below t is passed over
-  pub span_from_on : (n m s : ℕ) → n ≡ m + 1 → le (at flat (s + 1)) t ≡ true → span_from flat t n s ≡ span_from flat t m (s + 1)
+  -- as many spans on as the knots after s that are at or below t, up to the first that is not
+  pub span_from_is : (n s : ℕ) → s + 1 + n ≤ length flat → s + prefix_len (λ x. le x t) (take n (drop (s + 1) flat)) ≡ span_from flat t n s
   unfolding span_from
-  span_from_on n m s one e = rw (one, add-one m, e)
-
-  -- the search ends at the last span, and at a span that ends above t
-  pub span_from-last : (n s : ℕ) → n ≡ 0 → span_from flat t n s ≡ s
-  unfolding span_from
-  span_from-last n s e = rw e
-
-  pub span_from_here : (n s : ℕ) → le (at flat (s + 1)) t ≡ false → span_from flat t n s ≡ s
-  unfolding span_from
-  span_from_here zero s e = refl
-  span_from_here (suc n) s e = rw e
+  span_from_is zero s h = omega arith
+  span_from_is (suc n) s h =
+      let next : suc (s + 1) ≡ s + 1 + 1 = omega arith in
+      rw (drop-cons flat (s + 1) nan (omega arith), next) (pick (le (at flat (s + 1)) t) _ _ (span_from_is n (s + 1) (omega arith)))
+    where
+      pick : (b : Bool) (k r : ℕ) → s + 1 + k ≡ r → s + cond b (1 + k) 0 ≡ cond b r s
+      pick true k r e = omega arith
+      pick false k r e = omega arith
 
   -- between where it starts and its limit
   pub span_from_in : (n s : ℕ) → (s ≤ span_from flat t n s) × (span_from flat t n s ≤ s + n)
@@ -86,16 +85,13 @@ module _ (p : ℕ → Bool) (lo : ℕ) where
   pub last_with_cut : (n m k : ℕ) → n ≡ m + k → ((s : ℕ) → lo + m < s → s ≤ lo + n → p s ≡ false) → last_with p lo n ≡ last_with p lo m
   last_with_cut n m k q none = rw q (cut k m (λ s a b. none s a (omega arith)))
 
-  -- one that has the property is a new start
-  jump : (k m : ℕ) → 1 ≤ m → p (lo + m) ≡ true → last_with p lo (m + k) ≡ last_with p (lo + m) k
-  unfolding last_with
-  jump zero m h e = rw add-zero (last_with_here m (lo + m) h refl e)
-  jump (suc k) m h e =
-      let place : lo + suc (m + k) ≡ lo + m + suc k = omega arith in
-      rw (add-suc m k, place, jump k m h e)
-
-  pub last_with_jump : (n m k s : ℕ) → n ≡ m + k → 1 ≤ m → s ≡ lo + m → p s ≡ true → last_with p lo n ≡ last_with p s k
-  last_with_jump n m k s q h r e = rw (q, r) (jump k m h (rw (← r) e))
+  -- the place at which those with the property end
+  pub last_with-point : (m n : ℕ) → n ≤ m → ((s : ℕ) → lo < s → s ≤ lo + n → p s ≡ true) → ((s : ℕ) → lo + n < s → s ≤ lo + m → p s ≡ false) → last_with p lo m ≡ lo + n
+  last_with-point m n h with_p none = last_with_cut m n (m - n) (omega arith) none ∙ at_end n with_p
+    where
+      at_end : (n : ℕ) → ((s : ℕ) → lo < s → s ≤ lo + n → p s ≡ true) → last_with p lo n ≡ lo + n
+      at_end zero with_p = last_with-none zero refl ∙ omega arith
+      at_end (suc n) with_p = last_with_here (suc n) (lo + suc n) (omega arith) refl (with_p (lo + suc n) (omega arith) (omega arith))
 
   pub last_with_in : (n : ℕ) → (lo ≤ last_with p lo n) × (last_with p lo n ≤ lo + n)
   unfolding last_with

@@ -1,109 +1,110 @@
-// The basis functions that are not zero on a knot span (The NURBS Book, A2.2). Knots and values stand in one buffer, the values later, and the differences of
-// knots are taken where they are used.
-ghost use Rattle.std.specs.Prelude.{◌≡◌, ◌+◌, ◌*◌, ◌/◌, ◌<◌, ◌≤◌, length};
-ghost use Rattle.places.specs.Places.{laid};
+// The basis functions that are not zero on a knot span (The NURBS Book, A2.2), in the first places of lent values. The differences of knots are taken where they are
+// used.
+ghost use Rattle.std.specs.Prelude.{◌≡◌, ◌++◌, ◌+◌, ◌%◌, ◌<◌, ◌≤◌, length, drop};
+ghost use Rattle.places.specs.Places.{list_of};
 ghost use Rattle.geometry.specs.Doubles.{at};
 ghost use Rattle.bspline.specs.Basis.{left_of, right_of, row, basis_at};
 
-// The functions of degree j at u from those of degree j - 1, in place: the span's knot stands at `knot`, the values from `start` on.
-fn raise(work: &mut [f64], knot: usize, u: f64, j: usize, start: usize)
-    requires { (j ≤ knot) × (knot + j < start) × (start + j < length work.old) }
-    ensures { work.new ≡ laid start (j + 1)
-        (row (left_of work.old knot u) (right_of work.old knot u) (λ r. at work.old (start + r)) j) work.old }
+// The functions of degree j at u from those of degree j - 1, in place: function r of degree j - 1 is not zero from the knot below[r] to above[r].
+fn raise(flat: &[f64], span: usize, u: f64, j: usize, values: &mut [f64])
+    requires { (j ≤ span) × (span + j < length flat.now) × (j < length values.old) }
+    ensures { values.new ≡ list_of (j + 1) (row (left_of flat.now span u) (right_of flat.now span u) (at values.old) j) ++ drop (j + 1) values.old }
 {
+    let below = &flat[span + 1 - j..];
+    let above = &flat[span + 1..];
     let mut saved = 0.0;
-    for r in 0..j {
-        let a = u - work[knot + 1 - (j - r)];
-        let b = work[knot + (r + 1)] - u;
-        let temp = work[start + r] * (1.0 / (b + a));
-        work[start + r] = saved + b * temp;
+    for (r, value) in values[..j].iter_mut().enumerate() {
+        let a = u - below[r];
+        let b = above[r] - u;
+        let temp = *value * (1.0 / (b + a));
+        *value = saved + b * temp;
         saved = a * temp;
     }
-    work[start + j] = saved;
+    values[j] = saved;
 }
 
-// The functions of degree j + 1 at u from those of degree j - 1, in one pass and in place: a function of degree j is used where it is made and not stored.
-fn raise_twice(work: &mut [f64], knot: usize, u: f64, j: usize, start: usize)
-    requires { (j ≤ knot) × (knot + j + 1 < start) × (start + j + 1 < length work.old) }
-    ensures { work.new ≡ laid start (j + 2)
-        (row (left_of work.old knot u) (right_of work.old knot u)
-        (row (left_of work.old knot u) (right_of work.old knot u) (λ r. at work.old (start + r)) j) (j + 1))
-        work.old }
+// The functions of degree j + 1 at u from those of degree j - 1, in one pass and in place: a function of degree j is used where it is made and not stored. Function r
+// of degree j is not zero from the knot below[r] to above[r], that of degree j - 1 from below[r + 1] on.
+fn raise_twice(flat: &[f64], span: usize, u: f64, j: usize, values: &mut [f64])
+    requires { (j ≤ span) × (span + j + 1 < length flat.now) × (j + 1 < length values.old) }
+    ensures { values.new ≡ list_of (j + 2) (row (left_of flat.now span u) (right_of flat.now span u)
+        (row (left_of flat.now span u) (right_of flat.now span u) (at values.old) j) (j + 1)) ++ drop (j + 2) values.old }
 {
+    let below = &flat[span - j..];
+    let above = &flat[span + 1..];
     let mut lower = 0.0;
     let mut upper = 0.0;
-    for r in 0..j {
-        let b = work[knot + (r + 1)] - u;
-        let a = u - work[knot + 1 - (j - r)];
-        let c = u - work[knot + 1 - (j + 1 - r)];
-        let x = work[start + r] * (1.0 / (b + a));
+    for (r, value) in values[..j].iter_mut().enumerate() {
+        let a = u - below[r + 1];
+        let b = above[r] - u;
+        let c = u - below[r];
+        let x = *value * (1.0 / (b + a));
         let y = (lower + b * x) * (1.0 / (b + c));
-        work[start + r] = upper + b * y;
+        *value = upper + b * y;
         lower = a * x;
         upper = c * y;
     }
-    let b = work[knot + (j + 1)] - u;
-    let c = u - work[knot];
+    let b = above[j] - u;
+    let c = u - below[j];
     let y = lower * (1.0 / (b + c));
-    work[start + j] = upper + b * y;
-    work[start + (j + 1)] = c * y;
+    values[j] = upper + b * y;
+    values[j + 1] = c * y;
 }
 
-// The function of degree 0, or those of degree 1 where the degree is odd, so that the degrees above them go in pairs. Returns 0 or 1.
-fn begin(work: &mut [f64], knot: usize, degree: usize, u: f64, start: usize) -> usize
-    requires { (degree ≤ knot) × (knot + degree < start) × (start + degree < length work.old) }
-    ensures { (result + 2 * (degree / 2) ≡ degree) × (work.new ≡ laid start (result + 1) (at (basis_at work.old result knot u)) work.old) }
+// The function of degree 0, or those of degree 1 where the degree is odd, so that the degrees above them go in pairs.
+fn begin(flat: &[f64], span: usize, degree: usize, u: f64, values: &mut [f64])
+    requires { (degree ≤ span) × (span + degree < length flat.now) × (degree < length values.old) }
+    ensures { values.new ≡ basis_at flat.now (degree % 2) span u ++ drop (degree % 2 + 1) values.old }
 {
-    work[start] = 1.0;
-    if 2 * (degree / 2) == degree {
-        return 0;
+    values[0] = 1.0;
+    if degree % 2 == 1 {
+        raise(flat, span, u, 1, values);
     }
-    raise(work, knot, u, 1, start);
-    1
 }
 
 // The functions of degree 3, as `raise` makes them one degree after the other, with nothing stored but the last: the compiler packs the divisions in pairs.
-fn cubic_values(work: &mut [f64], knot: usize, u: f64, start: usize)
-    requires { (3 ≤ knot) × (knot + 3 < start) × (start + 3 < length work.old) }
-    ensures { work.new ≡ laid start 4 (at (basis_at work.old 3 knot u)) work.old }
+fn cubic_values(flat: &[f64], span: usize, u: f64, values: &mut [f64])
+    requires { (3 ≤ span) × (span + 3 < length flat.now) × (3 < length values.old) }
+    ensures { values.new ≡ basis_at flat.now 3 span u ++ drop 4 values.old }
 {
-    let a = u - work[knot];
-    let b = u - work[knot - 1];
-    let c = u - work[knot - 2];
-    let d = work[knot + 1] - u;
-    let e = work[knot + 2] - u;
-    let f = work[knot + 3] - u;
+    let a = u - flat[span];
+    let b = u - flat[span - 1];
+    let c = u - flat[span - 2];
+    let d = flat[span + 1] - u;
+    let e = flat[span + 2] - u;
+    let f = flat[span + 3] - u;
     let one = 1.0 * (1.0 / (d + a));
     let low = (0.0 + d * one) * (1.0 / (d + b));
     let high = a * one * (1.0 / (e + a));
     let x = (0.0 + d * low) * (1.0 / (d + c));
     let y = (b * low + e * high) * (1.0 / (e + b));
     let z = a * high * (1.0 / (f + a));
-    work[start] = 0.0 + d * x;
-    work[start + 1] = c * x + e * y;
-    work[start + 2] = b * y + f * z;
-    work[start + 3] = a * z;
+    values[0] = 0.0 + d * x;
+    values[1] = c * x + e * y;
+    values[2] = b * y + f * z;
+    values[3] = a * z;
 }
 
-// The functions of any degree, two degrees in a pass. The reader takes them for degree 3 too: it has just copied the knots, and reading them two at a time would wait.
-pub fn paired_values(work: &mut [f64], knot: usize, degree: usize, u: f64, start: usize)
-    requires { (degree ≤ knot) × (knot + degree < start) × (start + degree < length work.old) }
-    ensures { work.new ≡ laid start (degree + 1) (at (basis_at work.old degree knot u)) work.old }
+// The functions of any degree, two degrees in a pass.
+fn paired_values(flat: &[f64], span: usize, degree: usize, u: f64, values: &mut [f64])
+    requires { (degree ≤ span) × (span + degree < length flat.now) × (degree < length values.old) }
+    ensures { values.new ≡ basis_at flat.now degree span u ++ drop (degree + 1) values.old }
 {
-    let d = begin(work, knot, degree, u, start);
+    begin(flat, span, degree, u, values);
     for i in 0..degree / 2 {
-        raise_twice(work, knot, u, d + 2 * i + 1, start);
+        raise_twice(flat, span, u, degree % 2 + 2 * i + 1, values);
     }
 }
 
-// The basis functions of the degree that are not zero on the span that the knot at `knot` opens, at u, in the places from `start` on.
-pub fn basis_values(work: &mut [f64], knot: usize, degree: usize, u: f64, start: usize)
-    requires { (degree ≤ knot) × (knot + degree < start) × (start + degree < length work.old) }
-    ensures { work.new ≡ laid start (degree + 1) (at (basis_at work.old degree knot u)) work.old }
+// The basis functions of the degree that are not zero on the span, at u. Inlined in the table's loop and in the reader, as the Rust's `basis_of_degree` is.
+#[inline(always)]
+pub fn basis_values(flat: &[f64], span: usize, degree: usize, u: f64, values: &mut [f64])
+    requires { (degree ≤ span) × (span + degree < length flat.now) × (degree < length values.old) }
+    ensures { values.new ≡ basis_at flat.now degree span u ++ drop (degree + 1) values.old }
 {
     if degree == 3 {
-        cubic_values(work, knot, u, start);
-        return;
+        cubic_values(flat, span, u, values);
+    } else {
+        paired_values(flat, span, degree, u, values);
     }
-    paired_values(work, knot, degree, u, start);
 }

@@ -14,9 +14,9 @@ pub fn flat_knots(knots: &[f64], mults: &[u32], out: &mut [f64])
     ensures { out.new ≡ flat_knots knots.now mults.now ++ drop (sum_of mults.now) out.old }
 {
     let mut end = 0;
-    for k in 0..knots.len() {
-        let m = mults[k] as usize;
-        places::fill(out, end, m, knots[k]);
+    for (knot, mult) in knots.iter().zip(mults) {
+        let m = *mult as usize;
+        out[end..end + m].fill(*knot);
         end += m;
     }
 }
@@ -31,44 +31,20 @@ pub fn pole_sum(values: &[f64], poles: &[f64], first: usize, count: usize) -> Po
         y: 0.0,
         z: 0.0,
     };
-    for a in 0..count {
-        sum = sum.plus_scaled(values[a], geometry::point_at(poles, first + a));
+    for (a, value) in values[..count].iter().enumerate() {
+        sum = sum.plus_scaled(*value, geometry::point_at(poles, first + a));
     }
     sum
 }
 
-// The point at u, which the span holds, worked out in a lent row: the knots around the span are copied before the places of the basis functions' values.
-fn window_point(
-    flat: &[f64],
-    degree: usize,
-    span: usize,
-    poles: &[f64],
-    u: f64,
-    row: &mut [f64],
-) -> Point
-    requires fits { (degree ≤ 25) × (degree ≤ span) × (span + degree < length flat.now) × (3 * (span + 1) ≤ length poles.now) }
-    requires room { 3 * degree + 2 ≤ length row.old }
-    ensures { result ≡ weighted (degree + 1) (at (basis_at flat.now degree span u)) (λ a. point_at poles.now (span - degree + a)) }
-{
-    let from = span - degree;
-    let to = span + degree + 1;
-    let start = 2 * degree + 1;
-    places::copy(&flat[from..to], row);
-    crate::basis::paired_values(row, degree, degree, u, start);
-    pole_sum(&row[start..], poles, from, degree + 1)
-}
-
-// The same in a row of its own: a short one serves the low degrees.
-pub fn span_point(flat: &[f64], degree: usize, span: usize, poles: &[f64], u: f64) -> Point
+// The point at u, which the span holds.
+fn span_point(flat: &[f64], degree: usize, span: usize, poles: &[f64], u: f64) -> Point
     requires { (degree ≤ 25) × (degree ≤ span) × (span + degree < length flat.now) × (3 * (span + 1) ≤ length poles.now) }
     ensures { result ≡ weighted (degree + 1) (at (basis_at flat.now degree span u)) (λ a. point_at poles.now (span - degree + a)) }
 {
-    if degree <= 5 {
-        let mut row = [0.0; 17];
-        return window_point(flat, degree, span, poles, u, &mut row);
-    }
-    let mut row = [0.0; 77];
-    window_point(flat, degree, span, poles, u, &mut row)
+    let mut values = [0.0; 26];
+    crate::basis::basis_values(flat, span, degree, u, &mut values);
+    pole_sum(&values, poles, span - degree, degree + 1)
 }
 
 // The point at u of a curve whose flat knots never fall: u is clamped into the range.
@@ -78,7 +54,7 @@ pub fn curve_point(flat: &[f64], degree: usize, poles: &[f64], u: f64) -> Point
     ensures { result ≡ curve_point flat.now degree poles.now u }
 {
     let end = flat.len() - 1 - degree;
-    let x = crate::spans::clamped(u, flat[degree], flat[end]);
+    let x = u.clamp(flat[degree], flat[end]);
     let span = crate::spans::span_of(flat, degree, x);
     span_point(flat, degree, span, poles, x)
 }

@@ -1,32 +1,14 @@
 // Which knot span holds a parameter: the fit's way up from span to span (`BasisRows::at`), and the reader's by halving (`KnotVector::span`).
 ghost use Rattle.std.specs.Prelude.{◌≡◌, true, ℕ, ◌+◌, ◌-◌, ◌*◌, ◌<◌, ◌≤◌, length};
-ghost use Rattle.bspline.specs.Spans.{span_on, clamp, last_with, begins, wide, NeverFalls, span_of};
+ghost use Rattle.bspline.specs.Spans.{span_on, last_with, begins, wide, NeverFalls, span_of};
 
 // The span that holds t, from `span` on: t is at or after the parameter that `span` was found for.
 pub fn advance(flat: &[f64], degree: usize, span: usize, t: f64) -> usize
     requires { (degree ≤ span) × (span + degree + 2 ≤ length flat.now) }
     ensures { result ≡ span_on flat.now degree span t }
 {
-    let last = flat.len() - degree - 2;
-    let mut s = span;
-    while s < last && flat[s + 1] <= t {
-        s += 1;
-    }
-    s
-}
-
-// u moved into the range from a to b, as `f64::clamp` does.
-pub fn clamped(u: f64, a: f64, b: f64) -> f64
-    ensures { result ≡ clamp u a b }
-{
-    let mut x = u;
-    if x < a {
-        x = a;
-    }
-    if x > b {
-        x = b;
-    }
-    x
+    let ends = &flat[span + 1..flat.len() - degree - 1];
+    span + ends.iter().take_while(|end| **end <= t).count()
 }
 
 // The last of the `count` spans from lo on that begins at or below u, found by halving: those that begin at or below u stand first.
@@ -35,16 +17,7 @@ fn halve(flat: &[f64], lo: usize, count: usize, u: f64) -> usize
     requires begin_first { (s k : ℕ) → s ≤ k → k < lo + count → begins flat.now u k ≡ true → begins flat.now u s ≡ true }
     ensures { result ≡ last_with (begins flat.now u) lo (count - 1) }
 {
-    let mut span = lo;
-    let mut rest = count;
-    while rest > 1 {
-        let half = rest / 2;
-        if flat[span + half] <= u {
-            span += half;
-        }
-        rest -= half;
-    }
-    span
+    lo + flat[lo + 1..lo + count].partition_point(|knot| *knot <= u)
 }
 
 // The last of the spans lo to `from` that has a width, and lo where none has.

@@ -1,36 +1,22 @@
 // The table of the basis functions at rising parameters (`BasisTable::new`): knots, parameters and values stand in one buffer, the values last.
-ghost use Rattle.std.specs.Prelude.{◌≡◌, ◌++◌, ◌+◌, ◌-◌, ◌*◌, ◌≤◌, length, drop};
+ghost use Rattle.std.specs.Prelude.{◌≡◌, ◌+◌, ◌*◌, ◌≤◌, length};
 ghost use Rattle.places.specs.Regions.{part, splice};
 ghost use Rattle.tables.specs.BasisTable.{basis_table};
 ghost use Rattle.tables.specs.Layout.{FillsTable};
 
 use crate::Table;
+use crate::rows::BasisRows;
 
 // The rows of the table, one a parameter: the search for the span of a parameter goes on from that of the one before.
-fn fill_rows(
-    work: &mut [f64],
-    firsts: &mut [usize],
-    degree: usize,
-    count: usize,
-    values: usize,
-    flat: usize,
-    end: usize,
-    params: usize,
-)
-    requires { (flat + 2 * degree + 2 ≤ end) × (end ≤ values) × (params + count ≤ values)
-        × (values + count * (degree + 1) ≤ length work.old) × (count ≤ length firsts.old) }
-    ensures firsts_after { firsts.new ≡ (basis_table (part flat end work.old) degree (part params (params + count) work.old)).firsts
-        ++ drop count firsts.old }
-    ensures work_after { work.new ≡ splice values (values + count * (degree + 1))
-        (basis_table (part flat end work.old) degree (part params (params + count) work.old)).values work.old }
+fn fill_rows(flat: &[f64], degree: usize, params: &[f64], firsts: &mut [usize], values: &mut [f64])
+    requires { (2 * degree + 2 ≤ length flat.now) × (length firsts.old ≡ length params.now) × (length values.old ≡ length params.now * (degree + 1)) }
+    ensures firsts_after { firsts.new ≡ (basis_table flat.now degree params.now).firsts }
+    ensures values_after { values.new ≡ (basis_table flat.now degree params.now).values }
 {
     let width = degree + 1;
-    let mut span = degree;
-    for k in 0..count {
-        let t = work[params + k];
-        span = crate::rows::next_span(&work[flat..end], degree, span, t);
-        firsts[k] = span - degree;
-        bspline::basis::basis_values(work, flat + span, degree, t, values + k * width);
+    let mut rows = BasisRows::new(flat, degree);
+    for (k, t) in params.iter().enumerate() {
+        firsts[k] = rows.at(*t, &mut values[k * width..(k + 1) * width]);
     }
 }
 
@@ -49,17 +35,12 @@ pub fn fill_table(
     ensures work_after { work.new ≡ splice table.values (table.values + table.count * (table.degree + 1))
         (basis_table (part flat end work.old) table.degree (part params (params + table.count) work.old)).values work.old }
 {
-    let count = table.count;
-    let from = table.firsts;
-    let to = from + count;
+    let (given, values) = work.split_at_mut(table.values);
     fill_rows(
-        work,
-        &mut index[from..to],
+        &given[flat..end],
         table.degree,
-        count,
-        table.values,
-        flat,
-        end,
-        params,
+        &given[params..params + table.count],
+        &mut index[table.firsts..table.firsts + table.count],
+        &mut values[..table.count * (table.degree + 1)],
     );
 }

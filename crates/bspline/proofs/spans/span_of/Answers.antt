@@ -8,10 +8,8 @@ use Rattle.bspline.specs.Spans.{begins, wide, last_with, span_of}
 use native.Mathlib.Omega.{arith}
 use Rattle.bspline.proofs.spans.span_of.Goals as goal
 
-pub halve-last-requires : goal.halve-last-requires
-halve-last-requires c =
-    let a = c.args in
-    record { within = (omega arith, omega arith); begin_first = λ s k i j e. begins-down a.flat.now c.requires.never_falls a.u s k i (omega arith) e }
+pub halve-last-requires-clause-begin_first : goal.halve-last-requires-clause-begin_first
+halve-last-requires-clause-begin_first c = λ s k i j e. begins-down c.args.flat.now c.requires.never_falls c.args.u s k i (omega arith) e
 
 pub step_back-requires : goal.step_back-requires
 step_back-requires c =

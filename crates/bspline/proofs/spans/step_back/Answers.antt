@@ -1,12 +1,9 @@
 -- No span that is passed has a width, and the number falls. Assumes nothing.
 use native.Mathlib.Omega.{arith}
-use mathlib.Core.Path.{◌≡◌, refl, sym, ap, ◌∙◌}
+use mathlib.Core.Path.{◌≡◌, sym, ap, ◌∙◌}
 use mathlib.Core.Bool.{not}
 use Rattle.bspline.proofs.SpanLaws.{last_with-none, last_with_here, last_with-back}
 use Rattle.bspline.proofs.spans.step_back.Goals as goal
-
-pub loop-span-init : goal.loop-span-init
-loop-span-init c = (omega arith, omega arith, refl)
 
 pub loop-span-preserved : goal.loop-span-preserved
 loop-span-preserved c = (omega arith, omega arith, c.loop-span.invariant.2 ∙ last_with-back _ _ _ _ c.loop-span.span (omega arith) (omega arith) (ap not c.if-flat-span.true))
