@@ -10,21 +10,21 @@ use Rattle.fitting.specs.declared.Mark.TheVariants.{Refined, Spread, Interpolate
 use Rattle.fitting.specs.Marks.{largest_deviation}
 use Rattle.card_printer.specs.declared.Printed.{Printed}
 use Rattle.card_printer.specs.declared.Printed.TheVariants.{Text, NoRoom}
-use Rattle.card_text.specs.Text.{ascii, line, double_text, decimal_text, coordinate_names}
+use Rattle.card_text.specs.Text.{line, double_text, decimal_text, coordinate_names}
 
 -- the mark in lower case
 abbrev pub mark_name : Mark → List ℕ
-mark_name (Refined d) = ascii "refined"
-mark_name (Spread d) = ascii "spread"
-mark_name (Interpolated d) = ascii "interpolated"
-mark_name (Chosen d) = ascii "chosen"
+mark_name (Refined d) = codes "refined"
+mark_name (Spread d) = codes "spread"
+mark_name (Interpolated d) = codes "interpolated"
+mark_name (Chosen d) = codes "chosen"
 
 -- the names of the mark's line and of the knots'
 abbrev pub mark_names : List ℕ
-mark_names = line (ascii "mark") (ascii "largest" ∷ ascii "unreadable" ∷ [])
+mark_names = line (codes "mark") (codes "largest" ∷ codes "unreadable" ∷ [])
 
 abbrev pub knot_names : List ℕ
-knot_names = line (ascii "knot") (ascii "multiplicity" ∷ [])
+knot_names = line (codes "knot") (codes "multiplicity" ∷ [])
 
 -- the mark with the largest deviation and the unreadable count
 abbrev pub mark_line : Mark → ℕ → List ℕ
@@ -53,7 +53,7 @@ answer_text mark unreadable knots mults poles =
 
 -- the text of a refusal
 abbrev pub refusal_text : ℕ → List ℕ
-refusal_text n = line (ascii "refused") [] ++ line (decimal_text n) []
+refusal_text n = line (codes "refused") [] ++ line (decimal_text n) []
 
 -- a text stands from place a on, e is the place after it, and all other places are as they were
 pub record Put (old now : List ℕ) (a e : ℕ) (text : List ℕ) : Type 0 where
