@@ -87,7 +87,7 @@ impl CardError {
 
 // Lays the point of three words down as point n.
 fn lay(n: usize, x: u64, y: u64, z: u64, points: &mut [f64])
-    requires index { n < 64 }
+    requires index { n < POINTS }
     requires room { PLACES ≤ length points.old }
     ensures { points.new ≡ put_point n (point_of (row x y z)) points.old }
 {
@@ -161,13 +161,10 @@ impl State {
         ensures few { Few result }
     {
         match self {
-            State::X(head, points, Digits { count: 0, .. }) => {
-                if points < 65 {
-                    Ok(Card { head, points })
-                } else {
-                    Err(CardError::TooMany)
-                }
+            State::X(head, points, Digits { count: 0, .. }) if points <= POINTS => {
+                Ok(Card { head, points })
             }
+            State::X(_, _, Digits { count: 0, .. }) => Err(CardError::TooMany),
             _ => Err(CardError::Unreadable),
         }
     }

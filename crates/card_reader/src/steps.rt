@@ -64,13 +64,7 @@ pub fn degree(read: Digits, b: u8) -> Option<State>
         return (read.count > 0).then_some(State::Chordal(read.value as usize, 0));
     }
     let d = card_text::digit(b)?;
-    if d > 9 {
-        return None;
-    }
-    if read.count == 9 {
-        return None;
-    }
-    if read.count > 0 && read.value == 0 {
+    if d > 9 || read.count == 9 || (read.count > 0 && read.value == 0) {
         return None;
     }
     Some(State::Degree(Digits {
