@@ -25,10 +25,6 @@ one_digit_more b most r d h n l = (omega arith, rw add-one (more-digits b r.coun
 pub none_yet : (b most : ℕ) → DigitsOf b most no_digits
 none_yet b most = (omega arith, rw (pow-zero b) (lit< tt))
 
--- a digit more of a word has 64 bits
-pub word_room : (k : ℕ) → k < 16 → 16 ^ k * 16 ≤ 2 ^ 64
-word_room k h = let p : 16 ^ suc k ≤ 16 ^ 16 = pow-le-pow_right (omega arith) h in let q = pow-suc 16 k in omega arith
-
 -- every byte keeps the ranges
 pub held_next : (s : State) (b : ℕ) → Held s → Held (next s b)
 unfolding reached

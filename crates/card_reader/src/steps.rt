@@ -13,7 +13,7 @@ pub enum Word {
 }
 
 // A digit more of a word, or, after 16, the byte that ends it.
-#[tactic(auto, using(crate::proofs::RangeLaws::word_room), unfolding(crate::specs::Reading::word_next))]
+#[tactic(auto, using(card_text::proofs::NumberLaws::word_room), unfolding(crate::specs::Reading::word_next))]
 pub fn word_digit(read: Digits, b: u8, end: u8) -> Option<Word>
     requires { DigitsOf 16 16 read }
     ensures { result ≡ word_next read b end }
