@@ -3,24 +3,17 @@ use mathlib.Core.Path.{◌≡◌, ap, ◌∙◌, subst}
 use native.Mathlib.Omega.{arith}
 use lib.ListN.{take}
 use Rattle.card_text.specs.Text.{digits, word_text, double_text}
-use Rattle.card_printer.specs.Answer.{Put}
 use Rattle.card_text.proofs.NumberLaws.{sixteen}
-use Rattle.card_printer.proofs.put_double.Goals as goal
+use Rattle.card_printer.specs.Answer.{Puts}
+use Rattle.card_printer.proofs.text.Text.put_double.Goals as goal
 
-pub put-requires : goal.put-requires
-put-requires c =
-    let f = c.hex-n.ensures.len in
-    let e = sixteen c.to_word.result c.hex-n.result (omega arith) f.0 f.2 in
-    omega arith
-
-pub returns : goal.returns
+pub returns-clause-puts : goal.returns-clause-puts
 unfolding word_text
-returns c =
+returns-clause-puts c =
     let n = c.hex-n.result in
     let w = c.to_word.result in
     let d = c.hex-n.ensures.len in
     let long = sixteen w n (omega arith) d.0 d.2 in
     let e : take n c.hex-n.new.out ≡ word_text w = c.hex-n.ensures.digits ∙ ap (λ k. digits 16 k w) long in
     let f : word_text w ≡ double_text c.args.x = ap word_text c.to_word.ensures in
-    let p = c.put.ensures.place in
-    (subst (Put _ _ _ _) (e ∙ f) c.put.ensures, omega arith)
+    subst (Puts _ _) (e ∙ f) c.put.ensures
