@@ -1,6 +1,7 @@
 -- What was read so far is one text, which the state and the points are of, and a read adds its part at the end (the law `read_more`). Assumes nothing.
 use mathlib.Core.Path.{refl, sym, ◌∙◌, subst}
 use mathlib.Core.List.{[], ◌++◌}
+use borrow.Author.Rules.{rules}
 use lib.Dec.{lit<}
 use Rattle.card_reader.specs.Reading.{Held, after, kept_after}
 use Rattle.card_reader.proofs.JudgedLaws.{read_more}
@@ -16,15 +17,9 @@ loop-init c = record {
 
 pub loop-preserved : goal.loop-preserved
 loop-preserved c =
-    let took = c.read_some.ensures.took in
+    let took = c.in-Some.ensures.took in
     let so_far = c.loop.invariant.read in record {
-      held = c.read_some.ensures.held;
+      held = search rules;
       room = c.read_some.auto.points ∙ c.loop.invariant.room;
       read = (so_far.0 ++ took.0, read_more took.0 so_far.1 took.2 took.3);
     }
-
-pub returns-then-read_some-eq0 : goal.returns-then-read_some-eq0
-returns-then-read_some-eq0 c =
-    let took = c.read_some.ensures.took in
-    let so_far = c.loop.invariant.read in
-    (so_far.0 ++ took.0, read_more took.0 so_far.1 took.2 took.3)
