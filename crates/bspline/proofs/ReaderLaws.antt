@@ -5,7 +5,7 @@ use native.Mathlib.Numerals.{add-one}
 use mathlib.Core.Path.{◌≡◌, refl, sym, ap, ◌∙◌, subst}
 use mathlib.Core.List.{List, [], ◌++◌, append_assoc}
 use lib.ListN.{length, drop, replicate, drop_of_length-le, length-append, length-replicate, get_or-replicate, get_or-append}
-use lib.Seq.{drop-cons, drop-drop, take_at, drop_at, get_or-append-add}
+use lib.Seq.{drop-drop, take_at, drop_at, get_or-append-add}
 use lib.Dec.{T}
 use mathlib.Core.Bool.{true, false, not}
 use mathlib.Core.Logic.{⊎_elim}

@@ -3,6 +3,7 @@ use Prim.Native.Nat.{ℕ, ◌+◌, ◌*◌, ◌<◌, ◌≤◌}
 use mathlib.Core.Path.{◌≡◌, refl, sym, ap, ◌∙◌, subst}
 use mathlib.Core.List.{List}
 use mathlib.Core.Option.{Option, none, some}
+use Rattle.std.specs.Prelude as std
 use native.Mathlib.Omega.{arith}
 use lib.Dec.{ltb}
 use lib.Ieee.{Float, nan}
@@ -29,7 +30,6 @@ use Rattle.checks.proofs.CheckLaws.{checks_give, count_under}
 use Rattle.making.proofs.HandedLaws.{From, taken}
 use Rattle.making.proofs.FitLaws.{call_from}
 use Rattle.ladders.proofs.LadderLaws.{params-long}
-use Rattle.card_reader.specs.declared.Tolerance.{Tolerance}
 use Rattle.card_printer.specs.Answer.{answer_text}
 use Rattle.card.specs.Answers.{call_of, buffers, fit_text, result_text, handed_text, FewIn}
 use Rattle.std.specs.Prelude.{Ok, Err}
@@ -86,7 +86,7 @@ module _ (degree : ℕ) (l : Lent) where
   right-refused r c e = subst (λ (b : Answer). Right b l (Err c)) (sym e) (tt, refl)
 
 -- the fit that a tolerance asks for
-fit-right : (t : Tolerance) (factor : Float) (s : List Float) (degree : ℕ) (params : List Float) (l : Lent) (r : Answer)
+fit-right : (t : std.Option ℕ) (factor : Float) (s : List Float) (degree : ℕ) (params : List Float) (l : Lent) (r : Answer)
     → degree < length params → length params ≤ 64 → 1 ≤ degree → degree ≤ 25 → count_verdict (call_of t) (length params) degree ≡ pass
     → (x : FitResult) → fit_by (call_of t) (ladder factor s degree params) ≡ x → r ≡ answer_of degree x
     → l.poles ≡ handed_poles x buffers.poles → l.knots ≡ handed_knots x buffers.knots → l.mults ≡ handed_mults x buffers.mults → Right r l x
@@ -94,7 +94,7 @@ fit-right t factor s degree params l r under few low high e (Err c) q a p k m = 
 fit-right t factor s degree params l r under few low high e (Ok b) q a p k m =
     right-accepted degree l r (length params) few high b (from_stands factor s degree params (unmarked b) (call_from factor s degree params under (call_of t) low e b q)) a p k m
 
-by-tolerance : (t : Tolerance) (s : List Float) (degree : ℕ) (v : Metric) (l : Lent) (r : Answer) → length s ≤ 192 → LadderCall (call_of t) s degree v buffers l r
+by-tolerance : (t : std.Option ℕ) (s : List Float) (degree : ℕ) (v : Metric) (l : Lent) (r : Answer) → length s ≤ 192 → LadderCall (call_of t) s degree v buffers l r
     → Right r l (result_of (call_of t) s degree v buffers)
 unfolding ladder_fit result_of fit_with
 by-tolerance t s degree v l r few c =
@@ -116,6 +116,6 @@ by-tolerance t s degree v l r few c =
         fit-right t v.factor s degree params l r (omega arith) (omega arith) g.0.low g.0.high count (fit_by (call_of t) (ladder v.factor s degree params)) refl a p k m
 
 -- after the program's call the slices hold the text's fit
-pub call-right : (t : Tolerance) (call : Call) → call ≡ call_of t → (s : List Float) (degree : ℕ) (v : Metric) (l : Lent) (r : Answer) → length s ≤ 192 → LadderCall call s degree v buffers l r
+pub call-right : (t : std.Option ℕ) (call : Call) → call ≡ call_of t → (s : List Float) (degree : ℕ) (v : Metric) (l : Lent) (r : Answer) → length s ≤ 192 → LadderCall call s degree v buffers l r
     → Right r l (result_of (call_of t) s degree v buffers)
 call-right t call e s degree v l r few c = by-tolerance t s degree v l r few (subst (λ (k : Call). LadderCall k s degree v buffers l r) e c)

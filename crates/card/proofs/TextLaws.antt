@@ -6,8 +6,10 @@ use native.Mathlib.Omega.{arith}
 use lib.Ieee.{Float}
 use lib.ListN.{length, take}
 use Rattle.card_reader.specs.declared.Head.{Head}
-use Rattle.card_reader.specs.declared.Judgement.{Judgement}
-use Rattle.card_reader.specs.declared.Judgement.TheVariants.{Card, TooMany, Unreadable}
+use Rattle.card_reader.specs.declared.Card.{Card}
+use Rattle.card_reader.specs.declared.CardError.{CardError}
+use Rattle.card_reader.specs.declared.CardError.TheVariants.{TooMany, Unreadable}
+use Rattle.std.specs.Prelude.{Result, Ok, Err}
 use Rattle.card_reader.specs.Card.{Row, IsCard, doubles, laid_over}
 use Rattle.card_reader.specs.Judged.{Judged}
 use Rattle.card_reader.specs.declared.State.{State}
@@ -21,8 +23,10 @@ card-text : (h : Head) (ps : List Row) (n : ℕ) (old new : List Float) → leng
 card-text h ps n old new e m f =
     ap (ladder_text h) (ap (take (3 * n)) f ∙ ap (λ (k : ℕ). take (3 * k) (laid_over old ps)) (sym e) ∙ front-laid ps old (omega arith))
 
-pub judged_answered : (t : List ℕ) (old new : List Float) (j : Judgement) → Judged t old new j → Answered t (printed j new)
-judged_answered t old new (Card h n) j =
+pub judged_answered : (t : List ℕ) (old new : List Float) (j : Result Card CardError) → Judged t old new j → Answered t (printed j new)
+judged_answered t old new (Ok k) j =
+    let h = k.head in
+    let n = k.points in
     let ps = j.0 in
     let c = j.1 in
     let e = j.2 in
@@ -34,7 +38,7 @@ judged_answered t old new (Card h n) j =
       too_many = λ g qs d l. let k : length ps ≡ length qs = ap length (same g qs d).1 in absurd (omega arith);
       unreadable = λ d. absurd (d h ps c);
     }
-judged_answered t old new TooMany j =
+judged_answered t old new (Err TooMany) j =
     let h = j.0 in
     let ps = j.1 in
     let c = j.2 in
@@ -44,7 +48,7 @@ judged_answered t old new TooMany j =
       too_many = λ g qs d l. refl;
       unreadable = λ d. absurd (d h ps c);
     }
-judged_answered t old new Unreadable j =
+judged_answered t old new (Err Unreadable) j =
     record { card = λ g qs d l. absurd (j.0 g qs d); too_many = λ g qs d l. absurd (j.0 g qs d); unreadable = λ d. refl }
 
 -- the same of a text that was read in parts

@@ -1,5 +1,6 @@
 -- The text that is printed for a judged text, with the points that were read. Definitions only.
-use Rattle.std.specs.Prelude.{ℕ, ◌*◌, ◌≤◌, ◌<◌, ◌≡◌, List, Float, length, take, replicate, Ok, Err}
+use Rattle.std.specs.Prelude as std
+use Rattle.std.specs.Prelude.{ℕ, Option, Some, None, Ok, Err, ◌*◌, ◌≤◌, ◌<◌, ◌≡◌, List, Float, length, take, replicate}
 use Rattle.std.specs.Float.{binary64}
 use Rattle.std.specs.Float.Ieee.{of_bits}
 use Rattle.places.specs.Places.{list_of}
@@ -16,18 +17,16 @@ use Rattle.checks.specs.LadderChecks.{Lent, lent}
 use Rattle.making.specs.Results.{FitResult}
 use Rattle.ladders.specs.Ladders.{result_of, Answer}
 use Rattle.card_reader.specs.declared.Head.{Head}
-use Rattle.card_reader.specs.declared.Tolerance.{Tolerance}
-use Rattle.card_reader.specs.declared.Tolerance.TheVariants.{Without, Within}
-use Rattle.card_reader.specs.declared.Judgement.{Judgement}
-use Rattle.card_reader.specs.declared.Judgement.TheVariants.{Card, TooMany, Unreadable}
+use Rattle.card_reader.specs.declared.Card.{Card}
+use Rattle.card_reader.specs.declared.CardError.{CardError}
 use Rattle.card_reader.specs.Card.{Row, IsCard, doubles}
-use Rattle.card_reader.specs.Judged.{judgement_number}
+use Rattle.card_reader.specs.Judged.{refusal_number}
 use Rattle.card_printer.specs.Answer.{answer_text, refusal_text}
 
 -- `none` interpolates, and a word is the tolerance
-abbrev pub call_of : Tolerance → Call
-call_of Without = Interpolate
-call_of (Within w) = ApproximateWithin (of_bits binary64 w)
+abbrev pub call_of : Option ℕ → Call
+call_of None = Interpolate
+call_of (Some w) = ApproximateWithin (of_bits binary64 w)
 
 -- the slices that the program lends: room for 64 points of degree 25
 abbrev pub buffers : Lent
@@ -49,10 +48,9 @@ abbrev pub ladder_text : Head → List Float → List ℕ
 ladder_text h points = result_text (result_of (call_of h.tolerance) points h.degree (plain_metric h.spacing) buffers)
 
 -- what is printed: 11 for an unreadable text, 8 for a card with over 64 points, else the text of the fit of the card's points or of its refusal
-abbrev pub printed : Judgement → List Float → List ℕ
-printed (Card h n) points = ladder_text h (take (3 * n) points)
-printed TooMany points = refusal_text (judgement_number TooMany)
-printed Unreadable points = refusal_text (judgement_number Unreadable)
+abbrev pub printed : std.Result Card CardError → List Float → List ℕ
+printed (Ok c) points = ladder_text c.head (take (3 * c.points) points)
+printed (Err e) points = refusal_text (refusal_number e)
 
 -- What is printed for a whole text: for a card within the limits the text of the fit of its points or of its refusal, 8 for a card with over 64 points, 11 for
 -- every other text. (The reader's judgement and what is printed for it come to this: `judged_answered` of proofs/TextLaws.antt.)

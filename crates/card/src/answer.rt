@@ -5,23 +5,30 @@ ghost use Rattle.card_reader.specs.Judged.{Few};
 ghost use Rattle.card_printer.specs.Answer.{Put};
 ghost use Rattle.card.specs.Answers.{call_of, FewIn, handed_text, ladder_text, printed};
 
-use card_reader::{Head, Judgement, Tolerance};
 use bspline::Refusal;
+use card_printer::{Curve, KNOTS, POLES, ROOM};
+use card_reader::{Card, CardError, Head, PLACES};
 use checks::Call;
 use fitting::Fit;
 use knots::Metric;
 
+// The work and the indices of a ladder of 64 points of degree 25.
+const WORK: usize = 7488;
+
+const INDEX: usize = 256;
+
 // `none` interpolates.
-fn call_of(tolerance: Tolerance) -> Call
+fn call_of(tolerance: Option<u64>) -> Call
     ensures { result ≡ call_of tolerance }
 {
     match tolerance {
-        Tolerance::Without => Call::Interpolate,
-        Tolerance::Within(word) => Call::ApproximateWithin(card_text::from_word(word)),
+        None => Call::Interpolate,
+        Some(word) => Call::ApproximateWithin(card_text::from_word(word)),
     }
 }
 
 // The text of a call's answer, whose poles, knots and multiplicities stand at the front of the slices.
+#[tactic(auto, unfolding(crate::specs::Answers::handed_text))]
 fn put_handed(
     answer: Result<Fit, Refusal>,
     poles: &[f64],
@@ -29,61 +36,71 @@ fn put_handed(
     mults: &[u32],
     out: &mut [u8],
 ) -> usize
-    requires { FewIn answer × (192 ≤ length poles.now) × (90 ≤ length knots.now) × (90 ≤ length mults.now) × (8192 ≤ length out.old) }
-    ensures { Put out.old out.new 0 result (handed_text answer poles.now knots.now mults.now) × IsPrefixLen result out.new }
+    requires few { FewIn answer }
+    requires poles { POLES ≤ length poles.now }
+    requires knots { KNOTS ≤ length knots.now }
+    requires mults { KNOTS ≤ length mults.now }
+    requires room { ROOM ≤ length out.old }
+    ensures put { Put out.old out.new 0 result (handed_text answer poles.now knots.now mults.now) }
+    ensures prefix { IsPrefixLen result out.new }
 {
     match answer {
         Err(c) => card_printer::put_refusal(c.number(), out),
         Ok(f) => {
-            let mark = f.mark;
-            let k = f.knots;
-            let m = 3 * f.poles;
-            card_printer::put_answer(
-                mark,
-                f.unreadable,
-                &knots[..k],
-                &mults[..k],
-                &poles[..m],
-                out,
-            )
+            let curve = Curve {
+                mark: f.mark,
+                unreadable: f.unreadable,
+                knots: &knots[..f.knots],
+                mults: &mults[..f.knots],
+                poles: &poles[..3 * f.poles],
+            };
+            card_printer::put_answer(&curve, out)
         }
     }
 }
 
 // The text of the fit of a ladder, or of its refusal.
 fn fit_card(head: Head, points: &[f64], out: &mut [u8]) -> usize
-    requires { (length points.now ≤ 192) × (8192 ≤ length out.old) }
-    ensures { Put out.old out.new 0 result (ladder_text head points.now) × IsPrefixLen result out.new }
+    requires points { length points.now ≤ PLACES }
+    requires room { ROOM ≤ length out.old }
+    ensures put { Put out.old out.new 0 result (ladder_text head points.now) }
+    ensures prefix { IsPrefixLen result out.new }
 {
-    let mut poles = [0.0; 192];
-    let mut flat = [0.0; 90];
-    let mut knots = [0.0; 90];
-    let mut mults = [0u32; 90];
-    let mut work = [0.0; 7488];
-    let mut index = [0usize; 256];
-    let degree = head.degree;
-    let spacing = head.spacing;
-    let tolerance = head.tolerance;
+    let mut poles = [0.0; POLES];
+    let mut flat = [0.0; KNOTS];
+    let mut knots = [0.0; KNOTS];
+    let mut mults = [0u32; KNOTS];
+    let mut work = [0.0; WORK];
+    let mut index = [0usize; INDEX];
     let metric = Metric {
-        spacing,
+        spacing: head.spacing,
         factor: 1.0,
     };
-    let call = call_of(tolerance);
     let fitted = ladders::fit_ladder(
-        points, degree, metric, call, &mut poles, &mut flat, &mut knots, &mut mults, &mut work,
+        points,
+        head.degree,
+        metric,
+        call_of(head.tolerance),
+        &mut poles,
+        &mut flat,
+        &mut knots,
+        &mut mults,
+        &mut work,
         &mut index,
     );
     put_handed(fitted, &poles, &knots, &mults, out)
 }
 
 // The text of a judged text's answer: 11, then 8, then the fit of the card's points.
-pub fn answer(judgement: Judgement, points: &[f64], out: &mut [u8]) -> usize
-    requires { Few judgement × (192 ≤ length points.now) × (8192 ≤ length out.old) }
-    ensures { Put out.old out.new 0 result (printed judgement points.now) × IsPrefixLen result out.new }
+pub fn answer(judgement: Result<Card, CardError>, points: &[f64], out: &mut [u8]) -> usize
+    requires few { Few judgement }
+    requires points { PLACES ≤ length points.now }
+    requires room { ROOM ≤ length out.old }
+    ensures put { Put out.old out.new 0 result (printed judgement points.now) }
+    ensures prefix { IsPrefixLen result out.new }
 {
-    let Judgement::Card(head, n) = judgement else {
-        return card_printer::put_refusal(judgement.number(), out);
-    };
-    let end = 3 * n;
-    fit_card(head, &points[..end], out)
+    match judgement {
+        Ok(card) => fit_card(card.head, &points[..3 * card.points], out),
+        Err(error) => card_printer::put_refusal(error.number(), out),
+    }
 }

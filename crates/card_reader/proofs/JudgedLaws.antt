@@ -7,38 +7,41 @@ use native.Mathlib.Omega.{arith}
 use lib.Dec.{eqb, ltb}
 use lib.ListN.{length}
 use lib.Ieee.{Float}
+use Rattle.std.specs.Prelude.{Result, Ok, Err}
 use borrow.Author.Tests.{ltb-true, ltb-false, eqb-true, lt-ltb}
+use Rattle.card_text.specs.Text.{digits}
 use Rattle.card_reader.specs.Card.{Row, IsCard, laid_over, card_text}
-use Rattle.card_reader.specs.Reading.{next, kept, after, kept_after, HasRead, judgement_of}
+use Rattle.card_reader.specs.Reading.{no_digits, next, kept, after, kept_after, HasRead, judgement_of}
 use Rattle.card_reader.specs.Judged.{Judged}
 use Rattle.card_reader.specs.declared.Head.{Head}
 use Rattle.card_reader.specs.declared.State.{State}
 use Rattle.card_reader.specs.declared.State.TheVariants.{Names, Degree, Chordal, Centripetal, Bound, Without, Axes, X, Y, Z, Unreadable}
-use Rattle.card_reader.specs.declared.Judgement.{Judgement}
-use Rattle.card_reader.specs.declared.Judgement.TheVariants as judgement
+use Rattle.card_reader.specs.declared.Card.{Card}
+use Rattle.card_reader.specs.declared.CardError.{CardError}
+use Rattle.card_reader.specs.declared.CardError.TheVariants as error
 use Rattle.card_reader.proofs.CaseLaws.{test}
 use Rattle.card_reader.proofs.SoundLaws.{Seen, rows_after, seen}
 use Rattle.card_reader.proofs.CompleteLaws.{Page, read, read_is, at-card}
 use Rattle.card_reader.proofs.LaidLaws.{kept_all}
 
 -- what the reader says of a whole text
-abbrev pub judged : List ℕ → Judgement
+abbrev pub judged : List ℕ → Result Card CardError
 judged t = judgement_of (after (Names 0) t)
 
 -- what a judgement says of a text and the rows read
-abbrev Said : List ℕ → List Row → Judgement → Type 0
-Said t ps (judgement.Card h n) = IsCard t h ps × (length ps ≡ n) × (n ≤ 64)
-Said t ps judgement.TooMany = ((h : Head) × IsCard t h ps) × (64 < length ps)
-Said t ps judgement.Unreadable = Unit
+abbrev Said : List ℕ → List Row → Result Card CardError → Type 0
+Said t ps (Ok c) = IsCard t c.head ps × (length ps ≡ c.points) × (c.points ≤ 64)
+Said t ps (Err error.TooMany) = ((h : Head) × IsCard t h ps) × (64 < length ps)
+Said t ps (Err error.Unreadable) = Unit
 
 said : (s : State) (ps : List Row) (t : List ℕ) → Seen s ps t → Said t ps (judgement_of s)
-said (X h n k v) ps t f =
-    test (Said t ps) (eqb k 0) _ _
-    (λ e. test (Said t ps) (ltb n 65) _ _ (λ l. (card (eqb-true k 0 e), (few (ltb-true n 65 l)).0, (few (ltb-true n 65 l)).1)) (λ l. ((h, card (eqb-true k 0 e)), many (ltb-false n 65 l))))
+said (X h n r) ps t f =
+    test (Said t ps) (eqb r.count 0) _ _
+    (λ e. test (Said t ps) (ltb n 65) _ _ (λ l. (card r.count r.value (eqb-true r.count 0 e) f.0, (few (ltb-true n 65 l)).0, (few (ltb-true n 65 l)).1)) (λ l. ((h, card r.count r.value (eqb-true r.count 0 e) f.0), many (ltb-false n 65 l))))
     (λ e. tt)
   where
-    card : k ≡ 0 → IsCard t h ps
-    card e = record { head = f.2.head; points = f.2.rows; text = (rw e at f.0) ∙ append-nil (card_text h ps) }
+    card : (k v : ℕ) → k ≡ 0 → t ≡ card_text h ps ++ digits 16 k v → IsCard t h ps
+    card k v e g = record { head = f.2.head; points = f.2.rows; text = (rw e at g) ∙ append-nil (card_text h ps) }
 
     few : n < 65 → (length ps ≡ n) × (n ≤ 64)
     few l = let c = f.2.count in omega arith
@@ -46,25 +49,28 @@ said (X h n k v) ps t f =
     many : 65 ≤ n → 64 < length ps
     many l = let c = f.2.count in omega arith
 said (Names k) ps t f = tt
-said (Degree k v) ps t f = tt
+said (Degree r) ps t f = tt
 said (Chordal d k) ps t f = tt
 said (Centripetal d k) ps t f = tt
-said (Bound d s k v) ps t f = tt
+said (Bound d s r) ps t f = tt
 said (Without d s k) ps t f = tt
 said (Axes h k) ps t f = tt
-said (Y h n x k v) ps t f = tt
-said (Z h n x y k v) ps t f = tt
+said (Y h n x r) ps t f = tt
+said (Z h n x y r) ps t f = tt
 said Unreadable ps t f = tt
 
+abbrev pub card_of : Head → ℕ → Card
+card_of h n = record { head = h; points = n }
+
 -- an accepted text is the text of a card with that head and that number of points, which lie in the slice
-pub accepted : (t : List ℕ) (xs : List Float) (h : Head) (n : ℕ) → 192 ≤ length xs → judged t ≡ judgement.Card h n
-    → (ps : List Row) × IsCard t h ps × (length ps ≡ n) × (n ≤ 64) × (kept_after (Names 0) t xs ≡ laid_over xs ps)
-accepted t xs h n l e =
+pub accepted : (t : List ℕ) (xs : List Float) (c : Card) → 192 ≤ length xs → judged t ≡ Ok c
+    → (ps : List Row) × IsCard t c.head ps × (length ps ≡ c.points) × (c.points ≤ 64) × (kept_after (Names 0) t xs ≡ laid_over xs ps)
+accepted t xs c l e =
     let ps : List Row = rows_after (Names 0) t [] in
     let s = subst (Said t ps) e (said (after (Names 0) t) ps t (seen t)) in
     (ps, s.0, s.1, s.2, kept_all t xs l)
 
-pub too_many : (t : List ℕ) → judged t ≡ judgement.TooMany → (h : Head) × (ps : List Row) × IsCard t h ps × (64 < length ps)
+pub too_many : (t : List ℕ) → judged t ≡ Err error.TooMany → (h : Head) × (ps : List Row) × IsCard t h ps × (64 < length ps)
 too_many t e =
     let ps : List Row = rows_after (Names 0) t [] in
     let s = subst (Said t ps) e (said (after (Names 0) t) ps t (seen t)) in
@@ -72,19 +78,19 @@ too_many t e =
 
 -- the state and the rows after the text of a card
 at_end : (t : List ℕ) (h : Head) (ps : List Row) → IsCard t h ps
-    → (after (Names 0) t ≡ X h (min 65 (length ps)) 0 0) × (rows_after (Names 0) t [] ≡ ps)
+    → (after (Names 0) t ≡ X h (min 65 (length ps)) no_digits) × (rows_after (Names 0) t [] ≡ ps)
 at_end t h ps c =
     let e = sym (read_is (Names 0) [] t) ∙ ap (read (record { state = Names 0; points = [] })) c.text ∙ at-card h ps c.head c.points in
     (ap (λ (p : Page). p.state) e, ap (λ (p : Page). p.points) e)
 
 -- the text of a card is accepted with that card
 pub card-accepted : (t : List ℕ) (h : Head) (ps : List Row) → IsCard t h ps → length ps ≤ 64
-    → judged t ≡ judgement.Card h (length ps)
+    → judged t ≡ Ok (card_of h (length ps))
 card-accepted t h ps c l =
     let m : min 65 (length ps) ≡ length ps = omega arith in
     rw ((at_end t h ps c).0, m, lt-ltb (length ps) 65 (omega arith))
 
-pub card_too_many : (t : List ℕ) (h : Head) (ps : List Row) → IsCard t h ps → 64 < length ps → judged t ≡ judgement.TooMany
+pub card_too_many : (t : List ℕ) (h : Head) (ps : List Row) → IsCard t h ps → 64 < length ps → judged t ≡ Err error.TooMany
 card_too_many t h ps c l =
     let m : min 65 (length ps) ≡ 65 = omega arith in
     rw ((at_end t h ps c).0, m)
@@ -94,7 +100,7 @@ pub card-laid : (t : List ℕ) (xs : List Float) (h : Head) (ps : List Row) → 
 card-laid t xs h ps l c = kept_all t xs l ∙ ap (laid_over xs) (at_end t h ps c).1
 
 -- so a text that is no card's, and only such a text, is unreadable
-pub unreadable : (t : List ℕ) → judged t ≡ judgement.Unreadable → (h : Head) (ps : List Row) → IsCard t h ps → ⊥
+pub unreadable : (t : List ℕ) → judged t ≡ Err error.Unreadable → (h : Head) (ps : List Row) → IsCard t h ps → ⊥
 unreadable t e h ps c = go (ltb 64 (length ps)) refl
   where
     go : (b : Bool) → ltb 64 (length ps) ≡ b → ⊥
@@ -111,12 +117,12 @@ one-card t h g ps qs c d =
 pub judged-right : (t : List ℕ) (xs : List Float) → 192 ≤ length xs → Judged t xs (kept_after (Names 0) t xs) (judged t)
 judged-right t xs l = go (judged t) refl
   where
-    go : (v : Judgement) → judged t ≡ v → Judged t xs (kept_after (Names 0) t xs) v
-    go (judgement.Card h n) e = accepted t xs h n l e
-    go judgement.TooMany e =
+    go : (v : Result Card CardError) → judged t ≡ v → Judged t xs (kept_after (Names 0) t xs) v
+    go (Ok c) e = accepted t xs c l e
+    go (Err error.TooMany) e =
         let m = too_many t e in
         (m.0, m.1, m.2, m.3, card-laid t xs m.0 m.1 l m.2)
-    go judgement.Unreadable e = (unreadable t e, (rows_after (Names 0) t [], kept_all t xs l))
+    go (Err error.Unreadable) e = (unreadable t e, (rows_after (Names 0) t [], kept_all t xs l))
 
 -- a text may be read in parts
 pub after_parts : (s : State) (a b : List ℕ) → after s (a ++ b) ≡ after (after s a) b

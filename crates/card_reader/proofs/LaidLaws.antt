@@ -5,16 +5,19 @@ use mathlib.Core.Bool.{cond, Bool, true, false}
 use mathlib.Core.List.{List, [], ◌∷◌, ◌++◌, append_assoc, append-nil}
 use native.Mathlib.Numerals.{add-one}
 use native.Mathlib.Omega.{arith}
-use lib.Dec.{eqb, ltb, lit<}
+use lib.Dec.{ltb, lit<}
 use lib.ListN.{length, take, drop, length-append, length-drop}
 use lib.Seq.{take_all, take-append-le, take_at, drop-append-add, drop-drop, sets-eq}
 use lib.Ieee.{Float}
 use Rattle.geometry.specs.Points.{coordinates, put_point}
 use borrow.Author.Tests.{ltb-true, ltb-false}
 use Rattle.card_reader.specs.Card.{Row, row, point_of, doubles, laid_over}
-use Rattle.card_reader.specs.Reading.{next, kept, kept_after}
+use Rattle.card_reader.specs.Reading.{on_whole, word_next, next, kept, kept_after}
 use Rattle.card_reader.specs.declared.State.{State}
 use Rattle.card_reader.specs.declared.State.TheVariants.{Names, Degree, Chordal, Centripetal, Bound, Without, Axes, X, Y, Z, Unreadable}
+use Rattle.std.specs.Prelude.{Option, Some, None}
+use Rattle.card_reader.specs.declared.steps.Word.{Word}
+use Rattle.card_reader.specs.declared.steps.Word.TheVariants.{More, Whole}
 use Rattle.card_reader.proofs.SoundLaws.{Seen, rows, rows_after, seen_next}
 
 -- three places a point
@@ -68,25 +71,26 @@ full_over n p ps l e s = ap (λ (q : List Row). doubles q ++ drop (3 * length q)
 
 kept_next : (s : State) (b : ℕ) (ps : List Row) (t : List ℕ) (l : List Float) → Seen s ps t → 192 ≤ length l → kept s b (laid_over l ps) ≡ laid_over l (rows s b ps)
 unfolding kept rows
-kept_next (Z g n x y k v) b ps t l h m =
-    both (eqb k 16) _ _ (both (eqb b 10) _ _ (pick (ltb n 64) _ _ _ (λ e. put_over n (row x y v) ps l h.2.count (ltb-true n 64 e) m) (λ e. full_over n _ ps l h.2.count (ltb-false n 64 e))))
+kept_next (Z g n x y r) b ps t l h m = go (word_next r b 10)
   where
-    both : (c : Bool) (u : List Float) (q : List Row) → u ≡ laid_over l q → cond c u (laid_over l ps) ≡ laid_over l (cond c q ps)
-    both true u q e = e
-    both false u q e = refl
-
     pick : (c : Bool) (u w z : List Float) → (c ≡ true → u ≡ z) → (c ≡ false → w ≡ z) → cond c u w ≡ z
     pick true u w z f g = f refl
     pick false u w z f g = g refl
+
+    go : (w : Option Word)
+        → on_whole (λ z. cond (ltb n 64) (put_point n (point_of (row x y z)) (laid_over l ps)) (laid_over l ps)) (laid_over l ps) w ≡ laid_over l (on_whole (λ z. ps ++ (row x y z ∷ [])) ps w)
+    go (Some (Whole z)) = pick (ltb n 64) _ _ _ (λ e. put_over n (row x y z) ps l h.2.count (ltb-true n 64 e) m) (λ e. full_over n _ ps l h.2.count (ltb-false n 64 e))
+    go (Some (More d)) = refl
+    go None = refl
 kept_next (Names k) b ps t l h m = refl
-kept_next (Degree k v) b ps t l h m = refl
+kept_next (Degree r) b ps t l h m = refl
 kept_next (Chordal d k) b ps t l h m = refl
 kept_next (Centripetal d k) b ps t l h m = refl
-kept_next (Bound d s k v) b ps t l h m = refl
+kept_next (Bound d s r) b ps t l h m = refl
 kept_next (Without d s k) b ps t l h m = refl
 kept_next (Axes g k) b ps t l h m = refl
-kept_next (X g n k v) b ps t l h m = refl
-kept_next (Y g n x k v) b ps t l h m = refl
+kept_next (X g n r) b ps t l h m = refl
+kept_next (Y g n x r) b ps t l h m = refl
 kept_next Unreadable b ps t l h m = refl
 
 kept-after : (s : State) (ps : List Row) (done t : List ℕ) (l : List Float) → Seen s ps done → 192 ≤ length l

@@ -1,27 +1,28 @@
 -- What the reader has seen: in each state the text read so far is the front of a card's text. Assumes nothing.
-use Prim.Native.Nat.{ℕ, zero, suc, ◌+◌, ◌-◌, ◌*◌, ◌^◌, ◌≤◌, ◌<◌, min}
+use Prim.Native.Nat.{ℕ, zero, suc, ◌+◌, ◌*◌, ◌^◌, ◌≤◌, ◌<◌, min}
 use mathlib.Core.Path.{◌≡◌, refl, sym, ap, ◌∙◌, subst}
-use mathlib.Core.Bool.{cond, Bool, true, false}
+use mathlib.Core.Bool.{Bool, true, false}
 use mathlib.Core.List.{List, [], ◌∷◌, ◌++◌, append_assoc, append-nil}
 use native.Mathlib.Numerals.{add-one}
-use native.Mathlib.Nat.{pow-suc, pow-le-pow_right, mod-eq_of_lt}
+use native.Mathlib.Nat.{pow-suc, pow-le-pow_right}
 use native.Mathlib.Omega.{arith}
-use lib.Dec.{eqb, ltb, lit<, lit≤}
+use lib.Dec.{eqb, ltb, lit<}
 use lib.ListN.{length, get_or, take, length-append}
 use lib.Seq.{take-suc, take_all}
-use borrow.Author.Tests.{eqb-true, ltb-true, ltb-false, eq-eqb, ne_eqb}
-use Rattle.card_text.specs.Text.{digit_of, digits, word_text, decimal_text, line, coordinate_names}
-use Rattle.card_reader.specs.Card.{head_names, spacing_text, tolerance_text, Row, row_text, rows_text, head_text, card_text, HeadFits, RowFits, RowsFit}
-use Rattle.card_reader.specs.Reading.{next, Digits, head, more, after}
+use borrow.Author.Tests.{eqb-true, ltb-true, ltb-false}
+use Rattle.std.specs.Prelude.{None, unwrap_or, option_map}
+use Rattle.card_text.specs.Text.{digits, word_text, decimal_text, line, coordinate_names}
+use Rattle.card_reader.specs.Card.{head_names, spacing_text, tolerance_text, Row, row, row_text, rows_text, head_text, card_text, HeadFits, RowFits, RowsFit}
+use Rattle.card_reader.specs.Reading.{no_digits, digit_more, reached, next, DigitsOf, on_word, on_whole, word_next, head, more, after}
 use Rattle.card_reader.specs.declared.Head.{Head}
 use Rattle.knots.specs.declared.Spacing.{Spacing}
 use Rattle.knots.specs.declared.Spacing.TheVariants as spacing
-use Rattle.card_reader.specs.declared.Tolerance.TheVariants as tolerance
+use Rattle.card_reader.specs.declared.Digits.{Digits}
 use Rattle.card_reader.specs.declared.State.{State}
 use Rattle.card_reader.specs.declared.State.TheVariants.{Names, Degree, Chordal, Centripetal, Bound, Without, Axes, X, Y, Z, Unreadable}
-use Rattle.card_reader.proofs.CaseLaws.{literal_cases, word_cases, degree_cases, test}
+use Rattle.card_reader.proofs.CaseLaws.{literal_cases, word_parts, word_cases, degree_cases, both, Reaches}
 use Rattle.card_text.proofs.NumberLaws.{digits_more, decimal-digits}
-use Rattle.card_reader.proofs.DigitLaws.{glyph_digit}
+use Rattle.card_reader.proofs.DigitLaws.{IsGlyph, glyph_digit}
 use Rattle.card_reader.proofs.RangeLaws.{none_yet, one_digit_more}
 
 -- ---- the front of a card's text before each part
@@ -43,9 +44,9 @@ to_z h ps x y = to_y h ps x ++ (word_text y ++ (32 ∷ []))
 
 -- ---- what is known in each state, of the text read and the rows read
 
-pub record InDegree (k v : ℕ) : Type 0 where
-  pub digits : Digits 10 9 k v
-  pub plain : 1 < k → 10 ^ k ≤ v * 10
+pub record InDegree (r : Digits) : Type 0 where
+  pub digits : DigitsOf 10 9 r
+  pub plain : 1 < r.count → 10 ^ r.count ≤ r.value * 10
 
 pub record InHead (d : ℕ) (ps : List Row) : Type 0 where
   pub degree : d < 10 ^ 9
@@ -58,30 +59,21 @@ pub record InRows (h : Head) (n : ℕ) (ps : List Row) : Type 0 where
 
 abbrev pub Seen : State → List Row → List ℕ → Type 0
 Seen (Names k) ps t = (t ≡ take k head_names) × (k < 25) × (ps ≡ [])
-Seen (Degree k v) ps t = (t ≡ head_names ++ digits 10 k v) × InDegree k v × (ps ≡ [])
+Seen (Degree r) ps t = (t ≡ head_names ++ digits 10 r.count r.value) × InDegree r × (ps ≡ [])
 Seen (Chordal d k) ps t = (t ≡ to_spacing d ++ take k (spacing_text spacing.Chordal ++ (32 ∷ []))) × (k < 8) × InHead d ps
 Seen (Centripetal d k) ps t = (t ≡ to_spacing d ++ take k (spacing_text spacing.Centripetal ++ (32 ∷ []))) × (k < 12) × InHead d ps
-Seen (Bound d s k v) ps t = (t ≡ to_tolerance d s ++ digits 16 k v) × Digits 16 16 k v × InHead d ps
-Seen (Without d s k) ps t = (t ≡ to_tolerance d s ++ take k (tolerance_text tolerance.Without ++ (10 ∷ []))) × (k < 5) × InHead d ps
+Seen (Bound d s r) ps t = (t ≡ to_tolerance d s ++ digits 16 r.count r.value) × DigitsOf 16 16 r × InHead d ps
+Seen (Without d s k) ps t = (t ≡ to_tolerance d s ++ take k (tolerance_text None ++ (10 ∷ []))) × (k < 5) × InHead d ps
 Seen (Axes h k) ps t = (t ≡ to_axes h ++ take k coordinate_names) × (k < 6) × HeadFits h × (ps ≡ [])
-Seen (X h n k v) ps t = (t ≡ card_text h ps ++ digits 16 k v) × Digits 16 16 k v × InRows h n ps
-Seen (Y h n x k v) ps t = (t ≡ to_y h ps x ++ digits 16 k v) × Digits 16 16 k v × InRows h n ps × (x < 2 ^ 64)
-Seen (Z h n x y k v) ps t = (t ≡ to_z h ps x y ++ digits 16 k v) × Digits 16 16 k v × InRows h n ps × (x < 2 ^ 64) × (y < 2 ^ 64)
+Seen (X h n r) ps t = (t ≡ card_text h ps ++ digits 16 r.count r.value) × DigitsOf 16 16 r × InRows h n ps
+Seen (Y h n x r) ps t = (t ≡ to_y h ps x ++ digits 16 r.count r.value) × DigitsOf 16 16 r × InRows h n ps × (x < 2 ^ 64)
+Seen (Z h n x y r) ps t = (t ≡ to_z h ps x y ++ digits 16 r.count r.value) × DigitsOf 16 16 r × InRows h n ps × (x < 2 ^ 64) × (y < 2 ^ 64)
 Seen Unreadable ps t = Unit
 
 -- the rows after a byte
 unfoldable pub rows : State → ℕ → List Row → List Row
-rows (Z h n x y k v) b ps = cond (eqb k 16) (cond (eqb b 10) (ps ++ (record { x = x; y = y; z = v } ∷ [])) ps) ps
-rows (Names k) b ps = ps
-rows (Degree k v) b ps = ps
-rows (Chordal d k) b ps = ps
-rows (Centripetal d k) b ps = ps
-rows (Bound d s k v) b ps = ps
-rows (Without d s k) b ps = ps
-rows (Axes h k) b ps = ps
-rows (X h n k v) b ps = ps
-rows (Y h n x k v) b ps = ps
-rows Unreadable b ps = ps
+rows (Z h n x y r) b ps = on_whole (λ z. ps ++ (row x y z ∷ [])) ps (word_next r b 10)
+rows _ b ps = ps
 
 -- ---- a byte more
 
@@ -96,31 +88,37 @@ fresh {t} {g} e = e ∙ sym (append-nil g)
 fixed_more : (l : List ℕ) (k b : ℕ) → k < length l → b ≡ get_or l k 0 → take k l ++ (b ∷ []) ≡ take (k + 1) l
 fixed_more l k b h e = rw (add-one, take-suc l k 0 h, e)
 
-fixed_end : (l : List ℕ) (k b : ℕ) → 0 < length l → k ≡ length l - 1 → b ≡ get_or l k 0 → take k l ++ (b ∷ []) ≡ l
-fixed_end l k b o h e = fixed_more l k b (omega arith) e ∙ take_all (k + 1) l (omega arith)
+fixed_end : (l : List ℕ) (k b : ℕ) → k + 1 ≡ length l → b ≡ get_or l k 0 → take k l ++ (b ∷ []) ≡ l
+fixed_end l k b h e = fixed_more l k b (omega arith) e ∙ take_all (k + 1) l (omega arith)
+
+abbrev pub number : ℕ → ℕ → Digits
+number k v = record { count = k; value = v }
 
 -- a digit more
-digit-more : (base k v b : ℕ) → digit_of b < base → base ≤ 16 → digits base k v ++ (b ∷ []) ≡ digits base (k + 1) (v * base + digit_of b)
-digit-more base k v b h l = sym (digits_more base k v (digit_of b) h ∙ ap (λ g. digits base k v ++ (g ∷ [])) (glyph_digit b (omega arith)))
+digit-more : (base : ℕ) (r : Digits) (b d : ℕ) → IsGlyph b d → d < base → digits base r.count r.value ++ (b ∷ []) ≡ digits base (r.count + 1) (r.value * base + d)
+digit-more base r b d g l = sym (digits_more base r.count r.value d l ∙ ap (λ c. digits base r.count r.value ++ (c ∷ [])) g.byte)
 
 -- a number's last digit is read
-degree_end : (k v : ℕ) → (k ≡ 0 → ⊥) → InDegree k v → decimal_text v ≡ digits 10 k v
-degree_end zero v n h = absurd (n refl)
+degree_end : (k v : ℕ) → 0 < k → InDegree (number k v) → decimal_text v ≡ digits 10 k v
+degree_end zero v n h = absurd (omega arith)
 degree_end (suc k) v n h =
     let e = pow-suc 10 k in
     let d = h.digits in
     let p = h.plain in
     decimal-digits k v 20 (record { small = d.1; large = λ o. let q = p (omega arith) in omega arith }) (omega arith)
 
-degree-fits : (k v : ℕ) → InDegree k v → v < 10 ^ 9
-degree-fits k v h = let p : 10 ^ k ≤ 10 ^ 9 = pow-le-pow_right (omega arith) h.digits.0 in let d = h.digits.1 in omega arith
+degree-fits : (r : Digits) → InDegree r → r.value < 10 ^ 9
+degree-fits r h = let p : 10 ^ r.count ≤ 10 ^ 9 = pow-le-pow_right (omega arith) h.digits.0 in let d = h.digits.1 in omega arith
 
-degree-more : (k v d : ℕ) → (k ≡ 0 → ⊥) → (k ≡ 9 → ⊥) → (v ≡ 0 → ⊥) → d < 10 → InDegree k v → InDegree (k + 1) (v * 10 + d)
-degree-more k v d z n q l h = record { digits = one_digit_more 10 9 k v d h.digits n l; plain = λ o. rw (add-one, pow-suc 10 k) (go (ltb 1 k) refl) }
+degree-more : (r : Digits) (d : ℕ) → (r.count ≡ 9 → ⊥) → ((0 < r.count) × (r.value ≡ 0) → ⊥) → d < 10 → InDegree r → InDegree (digit_more 10 r d)
+degree-more r d n z l h = record {
+  digits = one_digit_more 10 9 r d h.digits n l;
+  plain = λ o. let some : 0 < r.count = omega arith in rw (add-one, pow-suc 10 r.count) (go some (λ e. z (some, e)) (ltb 1 r.count) refl);
+}
   where
-    go : (t : Bool) → ltb 1 k ≡ t → 10 ^ k * 10 ≤ (v * 10 + d) * 10
-    go true e = let p = h.plain (ltb-true _ _ e) in omega arith
-    go false e = let o : k ≡ 1 = omega (arith, ltb-false 1 k e) in rw o (omega arith)
+    go : 0 < r.count → (r.value ≡ 0 → ⊥) → (t : Bool) → ltb 1 r.count ≡ t → 10 ^ r.count * 10 ≤ (r.value * 10 + d) * 10
+    go o m true e = let p = h.plain (ltb-true _ _ e) in omega arith
+    go o m false e = let f : r.count ≡ 1 = omega (arith, ltb-false 1 r.count e) in rw f (omega arith)
 
 lines : (c u v w : List ℕ) → c ++ (u ++ (32 ∷ [])) ++ (v ++ (32 ∷ [])) ++ (w ++ (10 ∷ [])) ≡ c ++ line u (v ∷ w ∷ [])
 lines c u v w = simp append_assoc
@@ -132,25 +130,21 @@ rows_text-more (q ∷ ps) p = ap (λ (l : List ℕ). row_text q ++ l) (rows_text
 -- the card's text with a row more
 row_more : (h : Head) (ps : List Row) (x y z : ℕ) →
     to_z h ps x y ++ (word_text z ++ (10 ∷ [])) ≡ card_text h (ps ++ (record { x = x; y = y; z = z } ∷ []))
-row_more h ps x y z = lines (card_text h ps) (word_text x) (word_text y) (word_text z) ∙ append_assoc (head_text h) (rows_text ps) _ ∙ ap (λ (l : List ℕ). head_text h ++ l) (sym (rows_text-more ps (record { x = x; y = y; z = z })))
+row_more h ps x y z = lines (card_text h ps) (word_text x) (word_text y) (word_text z) ∙ append_assoc (head_text h) (rows_text ps) _ ∙ ap (λ (l : List ℕ). head_text h ++ l) (sym (rows_text-more ps (row x y z)))
 
 rows_more : (ps : List Row) (p : Row) → RowsFit ps → RowFits p → RowsFit (ps ++ (p ∷ []))
 rows_more [] p f g = (g, tt)
 rows_more (q ∷ ps) p f g = (f.0, rows_more ps p f.1 g)
 
 pub count-more : (n m : ℕ) → n ≡ min 65 m → more n ≡ min 65 (m + 1)
-count-more n m e = test (λ k. k ≡ min 65 (m + 1)) (ltb n 65) _ _ (λ l. omega (arith, ltb-true n 65 l)) (λ l. omega (arith, ltb-false n 65 l))
+count-more n m e = omega arith
 
 -- a word's last digit is read
 whole : (base k v b end : ℕ) → k ≡ 16 → b ≡ end → digits base k v ++ (b ∷ []) ≡ digits base 16 v ++ (end ∷ [])
 whole base k v b end f l = rw (f, l)
 
-word_fits : (k v : ℕ) → Digits 16 16 k v → k ≡ 16 → v < 2 ^ 64
+word_fits : (k v : ℕ) → DigitsOf 16 16 (number k v) → k ≡ 16 → v < 2 ^ 64
 word_fits k v h f = rw f at h.1
-
--- the first digit
-first : (k v b : ℕ) → digit_of b < 10 → k ≡ 0 → digits 10 k v ++ (b ∷ []) ≡ digits 10 1 (digit_of b)
-first k v b d z = rw z (rw (mod-eq_of_lt d, glyph_digit b (omega arith)))
 
 none : (g : Head) (ps : List Row) → ps ≡ [] → head_text g ≡ card_text g ps
 none g ps e = rw e (sym (append-nil (head_text g)))
@@ -166,36 +160,34 @@ head_end h = simp append_assoc
 
 module _ (b : ℕ) (ps : List Row) (t : List ℕ) where
   seen_names : (k : ℕ) → Seen (Names k) ps t → Then b ps t (next (Names k) b)
-  unfolding next
+  unfolding reached
   seen_names k h =
-      literal_cases (Then b ps t) head_names k b (Degree 0 0) (Names (k + 1)) Unreadable
-      (λ e l. (grow [] (take k head_names) b h.0 head_names (fixed_end head_names k b (lit< tt) l e), record { digits = none_yet 10 9; plain = λ o. absurd (omega arith) }, h.2))
+      literal_cases (Then b ps t) head_names k b (Degree no_digits) (Names (k + 1))
+      (λ e l. (grow [] (take k head_names) b h.0 head_names (fixed_end head_names k b l e), record { digits = none_yet 10 9; plain = λ o. absurd (omega arith) }, h.2))
       (λ e l. (grow [] (take k head_names) b h.0 _ (fixed_more head_names k b h.1 e), omega arith, h.2))
-      (λ e. tt)
+      tt
 
-  seen-degree : (k v : ℕ) → Seen (Degree k v) ps t → Then b ps t (next (Degree k v) b)
-  unfolding next
-  seen-degree k v h =
-      degree_cases (Then b ps t) k v b
+  seen-degree : (r : Digits) → Seen (Degree r) ps t → Then b ps t (next (Degree r) b)
+  unfolding reached
+  seen-degree r h =
+      degree_cases (Then b ps t) r b
       (λ e z. (
-        fresh (grow head_names (digits 10 k v) b h.0 _ (ap (λ l. l ++ (b ∷ [])) (sym (degree_end k v z h.1)) ∙ ap (λ c. decimal_text v ++ (c ∷ [])) e)),
+        fresh (grow head_names (digits 10 r.count r.value) b h.0 _ (ap (λ l. l ++ (b ∷ [])) (sym (degree_end r.count r.value z h.1)) ∙ ap (λ c. decimal_text r.value ++ (c ∷ [])) e)),
         lit< tt,
-        record { degree = degree-fits k v h.1; rows = h.2 },
+        record { degree = degree-fits r h.1; rows = h.2 },
       ))
-      (λ d z. (grow head_names (digits 10 k v) b h.0 _ (first k v b d z), record { digits = (lit≤ tt, d); plain = λ o. absurd (omega arith) }, h.2))
-      (λ d z n q. (grow head_names (digits 10 k v) b h.0 _ (digit-more 10 k v b d (lit≤ tt)), degree-more k v (digit_of b) z n q d h.1, h.2))
+      (λ d e l n z. (grow head_names (digits 10 r.count r.value) b h.0 _ (digit-more 10 r b d (glyph_digit b d e) l), degree-more r d n z l h.1, h.2))
       tt
 
   seen_chordal : (d k : ℕ) → Seen (Chordal d k) ps t → Then b ps t (next (Chordal d k) b)
-  unfolding next
+  unfolding reached
   seen_chordal d k h =
-      literal_cases (Then b ps t) field k b (Bound d spacing.Chordal 0 0) (Chordal d (k + 1)) _
-      (λ e l. (fresh (grow (to_spacing d) (take k field) b h.0 _ (fixed_end field k b (lit< tt) l e)), none_yet 16 16, h.2))
+      both (Reaches (Then b ps t)) (eqb k 1) (eqb b 101) _ _
+      (λ e f. (grow (to_spacing d) (take k field) b h.0 _ (other (eqb-true k 1 e) (eqb-true b 101 f)), lit< tt, h.2))
+      (λ n. literal_cases (Then b ps t) field k b (Bound d spacing.Chordal no_digits) (Chordal d (k + 1))
+      (λ e l. (fresh (grow (to_spacing d) (take k field) b h.0 _ (fixed_end field k b l e)), none_yet 16 16, h.2))
       (λ e l. (grow (to_spacing d) (take k field) b h.0 _ (fixed_more field k b h.1 e), omega arith, h.2))
-      (λ e. test (Then b ps t) (eqb k 1) _ _
-      (λ f. test (Then b ps t) (eqb b 101) _ _
-      (λ g. (grow (to_spacing d) (take k field) b h.0 _ (other (eqb-true k 1 f) (eqb-true b 101 g)), lit< tt, h.2)) (λ g. tt))
-      (λ f. tt))
+      tt)
     where
       field : List ℕ
       field = spacing_text spacing.Chordal ++ (32 ∷ [])
@@ -204,98 +196,94 @@ module _ (b : ℕ) (ps : List Row) (t : List ℕ) where
       other p q = rw (p, q)
 
   seen_centripetal : (d k : ℕ) → Seen (Centripetal d k) ps t → Then b ps t (next (Centripetal d k) b)
-  unfolding next
+  unfolding reached
   seen_centripetal d k h =
-      literal_cases (Then b ps t) field k b (Bound d spacing.Centripetal 0 0) (Centripetal d (k + 1)) Unreadable
-      (λ e l. (fresh (grow (to_spacing d) (take k field) b h.0 _ (fixed_end field k b (lit< tt) l e)), none_yet 16 16, h.2))
+      literal_cases (Then b ps t) field k b (Bound d spacing.Centripetal no_digits) (Centripetal d (k + 1))
+      (λ e l. (fresh (grow (to_spacing d) (take k field) b h.0 _ (fixed_end field k b l e)), none_yet 16 16, h.2))
       (λ e l. (grow (to_spacing d) (take k field) b h.0 _ (fixed_more field k b h.1 e), omega arith, h.2))
-      (λ e. tt)
+      tt
     where
       field : List ℕ
       field = spacing_text spacing.Centripetal ++ (32 ∷ [])
 
   seen_without : (d : ℕ) (s : Spacing) (k : ℕ) → Seen (Without d s k) ps t → Then b ps t (next (Without d s k) b)
-  unfolding next
+  unfolding reached
   seen_without d s k h =
-      literal_cases (Then b ps t) field k b (Axes (head d s tolerance.Without) 0) (Without d s (k + 1)) Unreadable
-      (λ e l. (fresh (grow (to_tolerance d s) (take k field) b h.0 _ (fixed_end field k b (lit< tt) l e)), lit< tt, record { degree = h.2.degree; tolerance = tt }, h.2.rows))
+      literal_cases (Then b ps t) field k b (Axes (head d s None) 0) (Without d s (k + 1))
+      (λ e l. (fresh (grow (to_tolerance d s) (take k field) b h.0 _ (fixed_end field k b l e)), lit< tt, record { degree = h.2.degree; tolerance = tt }, h.2.rows))
       (λ e l. (grow (to_tolerance d s) (take k field) b h.0 _ (fixed_more field k b h.1 e), omega arith, h.2))
-      (λ e. tt)
+      tt
     where
       field : List ℕ
-      field = tolerance_text tolerance.Without ++ (10 ∷ [])
+      field = tolerance_text None ++ (10 ∷ [])
 
   seen_axes : (g : Head) (k : ℕ) → Seen (Axes g k) ps t → Then b ps t (next (Axes g k) b)
-  unfolding next
+  unfolding reached
   seen_axes g k h =
-      literal_cases (Then b ps t) coordinate_names k b (X g 0 0 0) (Axes g (k + 1)) Unreadable
-      (λ e l. (fresh (grow (to_axes g) (take k coordinate_names) b h.0 _ (fixed_end coordinate_names k b (lit< tt) l e) ∙ head_end g ∙ none g ps h.3), none_yet 16 16, record { head = h.2; rows = rw h.3 tt; count = rw h.3 }))
+      literal_cases (Then b ps t) coordinate_names k b (X g 0 no_digits) (Axes g (k + 1))
+      (λ e l. (fresh (grow (to_axes g) (take k coordinate_names) b h.0 _ (fixed_end coordinate_names k b l e) ∙ head_end g ∙ none g ps h.3), none_yet 16 16, record { head = h.2; rows = rw h.3 tt; count = rw h.3 }))
       (λ e l. (grow (to_axes g) (take k coordinate_names) b h.0 _ (fixed_more coordinate_names k b h.1 e), omega arith, h.2, h.3))
-      (λ e. tt)
+      tt
 
-  seen_bound : (d : ℕ) (s : Spacing) (k v : ℕ) → Seen (Bound d s k v) ps t → Then b ps t (next (Bound d s k v) b)
-  unfolding next word_text
-  seen_bound d s k v h =
-      test (Then b ps t) (eqb b 110) _ _
-      (λ e. test (Then b ps t) (eqb k 0) _ _
-      (λ f. (grow (to_tolerance d s) (digits 16 k v) b h.0 _ (other (eqb-true k 0 f) (eqb-true b 110 e)), lit< tt, h.2)) (λ f. tt))
-      (λ e. word_cases (Then b ps t) (Bound d s) _ k v b 10
-      (λ f l. (fresh (grow (to_tolerance d s) (digits 16 k v) b h.0 _ (whole 16 k v b 10 f l)), lit< tt, record { degree = h.2.degree; tolerance = word_fits k v h.1 f }, h.2.rows))
-      (λ f l. (grow (to_tolerance d s) (digits 16 k v) b h.0 _ (digit-more 16 k v b l (lit≤ tt)), one_digit_more 16 16 k v (digit_of b) h.1 f l, h.2))
+  seen_bound : (d : ℕ) (s : Spacing) (r : Digits) → Seen (Bound d s r) ps t → Then b ps t (next (Bound d s r) b)
+  unfolding reached word_text
+  seen_bound d s r h =
+      both (Reaches (Then b ps t)) (eqb r.count 0) (eqb b 110) _ _
+      (λ e f. (grow (to_tolerance d s) (digits 16 r.count r.value) b h.0 _ (other r.count r.value (eqb-true r.count 0 e) (eqb-true b 110 f)), lit< tt, h.2))
+      (λ n. word_cases (Then b ps t) (Bound d s) _ r b 10
+      (λ f l. (fresh (grow (to_tolerance d s) (digits 16 r.count r.value) b h.0 _ (whole 16 r.count r.value b 10 f l)), lit< tt, record { degree = h.2.degree; tolerance = word_fits r.count r.value h.1 f }, h.2.rows))
+      (λ f c e. let g = glyph_digit b c e in (grow (to_tolerance d s) (digits 16 r.count r.value) b h.0 _ (digit-more 16 r b c g g.small), one_digit_more 16 16 r c h.1 f g.small, h.2))
       tt)
     where
-      other : k ≡ 0 → b ≡ 110 → digits 16 k v ++ (b ∷ []) ≡ take 1 (tolerance_text tolerance.Without ++ (10 ∷ []))
-      other p q = rw (p, q)
+      other : (k v : ℕ) → k ≡ 0 → b ≡ 110 → digits 16 k v ++ (b ∷ []) ≡ take 1 (tolerance_text None ++ (10 ∷ []))
+      other k v p q = rw (p, q)
 
-  seen-x : (g : Head) (n k v : ℕ) → Seen (X g n k v) ps t → Then b ps t (next (X g n k v) b)
-  unfolding next word_text
-  seen-x g n k v h =
-      word_cases (Then b ps t) (X g n) _ k v b 32
-      (λ f l. (fresh (grow (card_text g ps) (digits 16 k v) b h.0 _ (whole 16 k v b 32 f l)), none_yet 16 16, h.2, word_fits k v h.1 f))
-      (λ f l. (grow (card_text g ps) (digits 16 k v) b h.0 _ (digit-more 16 k v b l (lit≤ tt)), one_digit_more 16 16 k v (digit_of b) h.1 f l, h.2))
+  seen-x : (g : Head) (n : ℕ) (r : Digits) → Seen (X g n r) ps t → Then b ps t (next (X g n r) b)
+  unfolding reached word_text
+  seen-x g n r h =
+      word_cases (Then b ps t) (X g n) _ r b 32
+      (λ f l. (fresh (grow (card_text g ps) (digits 16 r.count r.value) b h.0 _ (whole 16 r.count r.value b 32 f l)), none_yet 16 16, h.2, word_fits r.count r.value h.1 f))
+      (λ f c e. let d = glyph_digit b c e in (grow (card_text g ps) (digits 16 r.count r.value) b h.0 _ (digit-more 16 r b c d d.small), one_digit_more 16 16 r c h.1 f d.small, h.2))
       tt
 
-  seen-y : (g : Head) (n x k v : ℕ) → Seen (Y g n x k v) ps t → Then b ps t (next (Y g n x k v) b)
-  unfolding next word_text
-  seen-y g n x k v h =
-      word_cases (Then b ps t) (Y g n x) _ k v b 32
-      (λ f l. (fresh (grow (to_y g ps x) (digits 16 k v) b h.0 _ (whole 16 k v b 32 f l)), none_yet 16 16, h.2, h.3, word_fits k v h.1 f))
-      (λ f l. (grow (to_y g ps x) (digits 16 k v) b h.0 _ (digit-more 16 k v b l (lit≤ tt)), one_digit_more 16 16 k v (digit_of b) h.1 f l, h.2, h.3))
+  seen-y : (g : Head) (n x : ℕ) (r : Digits) → Seen (Y g n x r) ps t → Then b ps t (next (Y g n x r) b)
+  unfolding reached word_text
+  seen-y g n x r h =
+      word_cases (Then b ps t) (Y g n x) _ r b 32
+      (λ f l. (fresh (grow (to_y g ps x) (digits 16 r.count r.value) b h.0 _ (whole 16 r.count r.value b 32 f l)), none_yet 16 16, h.2, h.3, word_fits r.count r.value h.1 f))
+      (λ f c e. let d = glyph_digit b c e in (grow (to_y g ps x) (digits 16 r.count r.value) b h.0 _ (digit-more 16 r b c d d.small), one_digit_more 16 16 r c h.1 f d.small, h.2, h.3))
       tt
 
-  seen-z : (g : Head) (n x y k v : ℕ) → Seen (Z g n x y k v) ps t → Then b (rows (Z g n x y k v) b ps) t (next (Z g n x y k v) b)
-  unfolding next rows word_text
-  seen-z g n x y k v h =
-      word_cases (Then b (rows (Z g n x y k v) b ps) t) (Z g n x y) _ k v b 10
-      (λ f l. rw (eq-eqb k 16 f, eq-eqb b 10 l) (line_end f l))
-      (λ f l. rw (ne_eqb k 16 f) (grow (to_z g ps x y) (digits 16 k v) b h.0 _ (digit-more 16 k v b l (lit≤ tt)), one_digit_more 16 16 k v (digit_of b) h.1 f l, h.2, h.3, h.4))
-      tt
-    where
-      line_end : k ≡ 16 → b ≡ 10 → Seen (X g (more n) 0 0) (ps ++ (record { x = x; y = y; z = v } ∷ [])) (t ++ (b ∷ []))
-      line_end f l = (
-        fresh (grow (to_z g ps x y) (digits 16 k v) b h.0 _ (whole 16 k v b 10 f l) ∙ row_more g ps x y v),
+  seen-z : (g : Head) (n x y : ℕ) (r : Digits) → Seen (Z g n x y r) ps t → Then b (rows (Z g n x y r) b ps) t (next (Z g n x y r) b)
+  unfolding reached rows word_text
+  seen-z g n x y r h =
+      word_parts (λ w. Seen (unwrap_or (option_map (on_word (Z g n x y) (λ z. X g (more n) no_digits)) w) Unreadable) (on_whole (λ z. ps ++ (row x y z ∷ [])) ps w) (t ++ (b ∷ []))) r b 10
+      (λ f l. (
+        fresh (grow (to_z g ps x y) (digits 16 r.count r.value) b h.0 _ (whole 16 r.count r.value b 10 f l) ∙ row_more g ps x y r.value),
         none_yet 16 16,
         record {
           head = h.2.head;
-          rows = rows_more ps _ h.2.rows (record { x = h.3; y = h.4; z = word_fits k v h.1 f });
-          count = count-more n (length ps) h.2.count ∙ ap (min 65) (sym (length-append ps (record { x = x; y = y; z = v } ∷ [])));
+          rows = rows_more ps _ h.2.rows (record { x = h.3; y = h.4; z = word_fits r.count r.value h.1 f });
+          count = count-more n (length ps) h.2.count ∙ ap (min 65) (sym (length-append ps (row x y r.value ∷ [])));
         },
-      )
+      ))
+      (λ f c e. let d = glyph_digit b c e in (grow (to_z g ps x y) (digits 16 r.count r.value) b h.0 _ (digit-more 16 r b c d d.small), one_digit_more 16 16 r c h.1 f d.small, h.2, h.3, h.4))
+      tt
 
 -- ---- a text
 
 pub seen_next : (s : State) (b : ℕ) (ps : List Row) (t : List ℕ) → Seen s ps t → Seen (next s b) (rows s b ps) (t ++ (b ∷ []))
-unfolding rows next
+unfolding rows reached
 seen_next (Names k) b ps t h = seen_names b ps t k h
-seen_next (Degree k v) b ps t h = seen-degree b ps t k v h
+seen_next (Degree r) b ps t h = seen-degree b ps t r h
 seen_next (Chordal d k) b ps t h = seen_chordal b ps t d k h
 seen_next (Centripetal d k) b ps t h = seen_centripetal b ps t d k h
-seen_next (Bound d s k v) b ps t h = seen_bound b ps t d s k v h
+seen_next (Bound d s r) b ps t h = seen_bound b ps t d s r h
 seen_next (Without d s k) b ps t h = seen_without b ps t d s k h
 seen_next (Axes g k) b ps t h = seen_axes b ps t g k h
-seen_next (X g n k v) b ps t h = seen-x b ps t g n k v h
-seen_next (Y g n x k v) b ps t h = seen-y b ps t g n x k v h
-seen_next (Z g n x y k v) b ps t h = seen-z b ps t g n x y k v h
+seen_next (X g n r) b ps t h = seen-x b ps t g n r h
+seen_next (Y g n x r) b ps t h = seen-y b ps t g n x r h
+seen_next (Z g n x y r) b ps t h = seen-z b ps t g n x y r h
 seen_next Unreadable b ps t h = tt
 
 -- the rows after a text

@@ -1,29 +1,27 @@
 -- The card: what it holds, and its text, document 01's input. Definitions only.
-use Rattle.std.specs.Prelude.{ℕ, ◌*◌, ◌^◌, ◌<◌, ◌≡◌, List, [], ◌∷◌, ◌++◌, Float, length, take, drop}
+use Rattle.std.specs.Prelude.{ℕ, Option, Some, None, ◌*◌, ◌^◌, ◌<◌, ◌≡◌, List, [], ◌∷◌, ◌++◌, codes, Float, length, take, drop}
 use Rattle.std.specs.Float.{binary64}
 use Rattle.std.specs.Float.Ieee.{of_bits}
 use Rattle.geometry.specs.declared.Point.{Point}
 use Rattle.geometry.specs.Points.{coordinates}
 use Rattle.knots.specs.declared.Spacing.{Spacing}
 use Rattle.knots.specs.declared.Spacing.TheVariants.{Chordal, Centripetal}
-use Rattle.card_text.specs.Text.{ascii, word_text, decimal_text, line, coordinate_names}
+use Rattle.card_text.specs.Text.{word_text, decimal_text, line, coordinate_names}
 use Rattle.card_reader.specs.declared.Head.{Head}
-use Rattle.card_reader.specs.declared.Tolerance.{Tolerance}
-use Rattle.card_reader.specs.declared.Tolerance.TheVariants.{Without, Within}
 
 -- the names of what stands before the points
 abbrev pub head_names : List ℕ
-head_names = line (ascii "degree") (ascii "spacing" ∷ ascii "tolerance" ∷ [])
+head_names = line (codes "degree") (codes "spacing" ∷ codes "tolerance" ∷ [])
 
 -- the name of a spacing
 abbrev pub spacing_text : Spacing → List ℕ
-spacing_text Chordal = ascii "chordal"
-spacing_text Centripetal = ascii "centripetal"
+spacing_text Chordal = codes "chordal"
+spacing_text Centripetal = codes "centripetal"
 
 -- a tolerance is a word, or `none`
-abbrev pub tolerance_text : Tolerance → List ℕ
-tolerance_text Without = ascii "none"
-tolerance_text (Within w) = word_text w
+abbrev pub tolerance_text : Option ℕ → List ℕ
+tolerance_text None = codes "none"
+tolerance_text (Some w) = word_text w
 
 -- a point's three words
 pub record Row : Type 0 where
@@ -55,9 +53,9 @@ abbrev pub card_text : Head → List Row → List ℕ
 card_text h ps = head_text h ++ rows_text ps
 
 -- the limits: a degree of at most nine digits, words of 64 bits
-abbrev pub Bounded : Tolerance → Type 0
-Bounded Without = Unit
-Bounded (Within w) = w < 2 ^ 64
+abbrev pub Bounded : Option ℕ → Type 0
+Bounded None = Unit
+Bounded (Some w) = w < 2 ^ 64
 
 pub record HeadFits (h : Head) : Type 0 where
   pub degree : h.degree < 10 ^ 9

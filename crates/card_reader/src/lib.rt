@@ -6,25 +6,34 @@ pub mod steps;
 ghost use Rattle.std.specs.Prelude.{◌≡◌, ◌≤◌, ◌<◌, length};
 ghost use Rattle.geometry.specs.Points.{put_point};
 ghost use Rattle.card_reader.specs.Card.{row, point_of};
-ghost use Rattle.card_reader.specs.Judged.{Judged, Few, judgement_number, ReadInto};
-ghost use Rattle.card_reader.specs.Reading.{begun, next, Held, kept, after, kept_after, judgement_of};
+ghost use Rattle.card_reader.specs.Judged.{Judged, Few, refusal_number, ReadInto};
+ghost use Rattle.card_reader.specs.Reading.{begun, reached, next, Held, kept, after, kept_after, judgement_of};
 
 use geometry::Point;
 use knots::Spacing;
 
-// A word, or `none`.
-#[derive(Clone, Copy)]
-pub enum Tolerance {
-    Without,
-    Within(u64),
-}
+// The most points that a card is fitted with, and the places of their coordinates.
+pub const POINTS: usize = 64;
 
-// What stands before a card's points.
+pub const PLACES: usize = 3 * POINTS;
+
+// What stands before a card's points. A tolerance is a word, or `none`.
 #[derive(Clone, Copy)]
 pub struct Head {
     pub degree: usize,
     pub spacing: Spacing,
-    pub tolerance: Tolerance,
+    pub tolerance: Option<u64>,
+}
+
+// The digits that are read of a number: how many, and their value.
+#[derive(Clone, Copy, Debug, PartialEq, Eq)]
+pub struct Digits {
+    pub count: usize,
+    pub value: u64,
+}
+
+impl Digits {
+    pub const NONE: Digits = Digits { count: 0, value: 0 };
 }
 
 // How far a text is read. The points of whole lines lie in the lent slice, and `count` is their number, 65 for more.
@@ -32,38 +41,54 @@ pub struct Head {
 pub enum State {
     // bytes read of the first line
     Names(usize),
-    // digits read, and their value
-    Degree(usize, u64),
+    // the digits of the degree
+    Degree(Digits),
     // the degree, and bytes read of `chordal `
     Chordal(usize, usize),
     // the degree, and bytes read of `centripetal `
     Centripetal(usize, usize),
-    // degree, spacing, digits read and their value
-    Bound(usize, Spacing, usize, u64),
+    // degree, spacing, and the digits of the tolerance
+    Bound(usize, Spacing, Digits),
     // degree, spacing, and bytes read of `none` and its newline
     Without(usize, Spacing, usize),
     // bytes read of the names of the coordinates
     Axes(Head, usize),
-    // count, digits read and their value
-    X(Head, usize, usize, u64),
-    // count, x, digits read and their value
-    Y(Head, usize, u64, usize, u64),
-    // count, x, y, digits read and their value
-    Z(Head, usize, u64, u64, usize, u64),
+    // count, and the digits of x
+    X(Head, usize, Digits),
+    // count, x, and the digits of y
+    Y(Head, usize, u64, Digits),
+    // count, x, y, and the digits of z
+    Z(Head, usize, u64, u64, Digits),
     Unreadable,
 }
 
-// What a whole text is judged: a card with so many points, a card with over 64, or no card.
+// A card that is read: what stands before its points, and how many there are.
 #[derive(Clone, Copy)]
-pub enum Judgement {
-    Card(Head, usize),
-    TooMany,
-    Unreadable,
+pub struct Card {
+    pub head: Head,
+    pub points: usize,
+}
+
+// Why a whole text is no card that is fitted, with document 01's numbers: it has over 64 points, or it is the text of no card.
+#[derive(Clone, Copy, Debug, PartialEq, Eq)]
+pub enum CardError {
+    TooMany = 8,
+    Unreadable = 11,
+}
+
+impl CardError {
+    // Document 01's number.
+    pub fn number(self) -> u32
+        ensures { result ≡ refusal_number self }
+    {
+        self as u32
+    }
 }
 
 // Lays the point of three words down as point n.
 fn lay(n: usize, x: u64, y: u64, z: u64, points: &mut [f64])
-    requires { (n < 64) × (192 ≤ length points.old) }
+    requires index { n < POINTS }
+    requires room { PLACES ≤ length points.old }
     ensures { points.new ≡ put_point n (point_of (row x y z)) points.old }
 {
     let q = Point {
@@ -82,110 +107,84 @@ impl State {
         State::Names(0)
     }
 
-    // The state after one byte more.
-    pub fn step(self, b: u8) -> State
-        requires { Held self }
-        ensures { result ≡ next self b }
+    // The state after one byte more, where the text may go on with it. A byte that ends a point's line lays that point down, if it is one of the first 64.
+    #[tactic(auto, unfolding(crate::specs::Reading::reached, crate::specs::Reading::kept))]
+    fn reach(self, b: u8, points: &mut [f64]) -> Option<State>
+        requires held { Held self }
+        requires room { PLACES ≤ length points.old }
+        ensures state { result ≡ reached self b }
+        ensures points { points.new ≡ kept self b points.old }
     {
         match self {
-            State::Names(k) => crate::steps::names(k, b),
-            State::Degree(k, v) => crate::steps::degree(k, v, b),
-            State::Chordal(d, k) => crate::steps::chordal(d, k, b),
-            State::Centripetal(d, k) => crate::steps::centripetal(d, k, b),
-            State::Bound(d, s, k, v) => crate::steps::bound(d, s, k, v, b),
-            State::Without(d, s, k) => crate::steps::without(d, s, k, b),
-            State::Axes(h, k) => crate::steps::axes(h, k, b),
-            State::X(h, n, k, v) => crate::steps::x(h, n, k, v, b),
-            State::Y(h, n, p, k, v) => crate::steps::y(h, n, p, k, v, b),
-            State::Z(h, n, p, q, k, v) => crate::steps::z(h, n, p, q, k, v, b),
-            State::Unreadable => State::Unreadable,
+            State::Names(k) => steps::names(k, b),
+            State::Degree(read) => steps::degree(read, b),
+            State::Chordal(d, k) => steps::chordal(d, k, b),
+            State::Centripetal(d, k) => steps::centripetal(d, k, b),
+            State::Bound(d, s, read) => steps::bound(d, s, read, b),
+            State::Without(d, s, k) => steps::without(d, s, k, b),
+            State::Axes(h, k) => steps::axes(h, k, b),
+            State::X(h, n, read) => steps::x(h, n, read, b),
+            State::Y(h, n, x, read) => steps::y(h, n, x, read, b),
+            State::Z(h, n, x, y, read) => steps::z(h, n, x, y, read, b, points),
+            State::Unreadable => None,
         }
     }
 
-    // The points after one byte more: where it ends a point's line, and that is one of the first 64, the point is laid down.
-    pub fn keep(self, b: u8, points: &mut [f64])
-        requires { 192 ≤ length points.old }
-        ensures { points.new ≡ kept self b points.old }
+    // The state and the points after one byte more.
+    pub fn step(self, b: u8, points: &mut [f64]) -> State
+        requires held { Held self }
+        requires room { PLACES ≤ length points.old }
+        ensures state { result ≡ next self b }
+        ensures points { points.new ≡ kept self b points.old }
     {
-        if let State::Z(_, n, x, y, k, v) = self {
-            if k == 16 {
-                if b == 10 {
-                    if n < 64 {
-                        lay(n, x, y, v, points);
-                    }
-                }
-            }
-        }
+        self.reach(b, points).unwrap_or(State::Unreadable)
     }
 
     // The state and the points after a part of the text.
     pub fn feed(self, text: &[u8], points: &mut [f64]) -> State
-        requires { Held self × (192 ≤ length points.old) }
-        ensures { (result ≡ after self text.now) × (points.new ≡ kept_after self text.now points.old) × Held result }
+        requires held { Held self }
+        requires room { PLACES ≤ length points.old }
+        ensures state { result ≡ after self text.now }
+        ensures points { points.new ≡ kept_after self text.now points.old }
+        ensures held { Held result }
     {
         let mut state = self;
-        let mut i = 0;
-        while i < text.len() {
-            let b = text[i];
-            state.keep(b, points);
-            state = state.step(b);
-            i += 1;
+        for b in text {
+            state = state.step(*b, points);
         }
         state
     }
 
     // What the whole text is judged.
-    pub fn finish(self) -> Judgement
-        ensures { (result ≡ judgement_of self) × Few result }
+    pub fn finish(self) -> Result<Card, CardError>
+        ensures judged { result ≡ judgement_of self }
+        ensures few { Few result }
     {
-        let State::X(h, n, k, _) = self else {
-            return Judgement::Unreadable;
-        };
-        if k == 0 {
-            if n < 65 {
-                return Judgement::Card(h, n);
+        match self {
+            State::X(head, points, Digits { count: 0, .. }) if points <= POINTS => {
+                Ok(Card { head, points })
             }
-            return Judgement::TooMany;
+            State::X(_, _, Digits { count: 0, .. }) => Err(CardError::TooMany),
+            _ => Err(CardError::Unreadable),
         }
-        Judgement::Unreadable
     }
 }
 
 // Judges a whole text, and lays the points down.
-pub fn judge(text: &[u8], points: &mut [f64]) -> Judgement
-    requires { 192 ≤ length points.old }
-    ensures { Judged text.now points.old points.new result × (points.new ≡ kept_after begun text.now points.old) }
+pub fn judge(text: &[u8], points: &mut [f64]) -> Result<Card, CardError>
+    requires { PLACES ≤ length points.old }
+    ensures judged { Judged text.now points.old points.new result }
+    ensures points { points.new ≡ kept_after begun text.now points.old }
 {
-    let state = State::start().feed(text, points);
-    state.finish()
+    State::start().feed(text, points).finish()
 }
 
-// A whole text read: what it is judged, or that the slice has no room for 64 points.
-#[derive(Clone, Copy)]
-pub enum Read {
-    Judged(Judgement),
-    NoRoom,
-}
-
-// Reads a whole text into a slice of any length.
-pub fn read_card(text: &[u8], points: &mut [f64]) -> Read
+// Reads a whole text into a slice of any length: what it is judged, or nothing where the slice has no room for 64 points.
+pub fn read_card(text: &[u8], points: &mut [f64]) -> Option<Result<Card, CardError>>
     ensures { ReadInto text.now points.old points.new result }
 {
-    if points.len() < 192 {
-        return Read::NoRoom;
+    if points.len() < PLACES {
+        return None;
     }
-    Read::Judged(judge(text, points))
-}
-
-impl Judgement {
-    // Document 01's number, and 0 for a card that is fitted.
-    pub fn number(self) -> u32
-        ensures { result ≡ judgement_number self }
-    {
-        match self {
-            Judgement::Card(_, _) => 0,
-            Judgement::TooMany => 8,
-            Judgement::Unreadable => 11,
-        }
-    }
+    Some(judge(text, points))
 }

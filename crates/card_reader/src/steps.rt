@@ -1,219 +1,207 @@
-// One byte more of each part of a card's text.
-ghost use Rattle.std.specs.Prelude.{◌≡◌, ◌^◌, ◌≤◌, ◌<◌};
-ghost use Rattle.card_reader.specs.Reading.{word_next, degree_next, names_next, chordal_next, centripetal_next, tolerance_next, without_next, axes_next, x_next, y_next, z_next};
+// One byte more of each part of a card's text: the state that follows, or none where the part doesn't go on with that byte.
+ghost use Rattle.std.specs.Prelude.{◌≡◌, ◌≤◌, ◌<◌, length};
+ghost use Rattle.card_reader.specs.Reading.{DigitsOf, literal_next, word_next, degree_next, names_next, chordal_next, centripetal_next, tolerance_next, without_next, axes_next, x_next, y_next, z_next, kept};
 
-use crate::{Head, State, Tolerance};
+use crate::{Digits, Head, PLACES, POINTS, State};
 use knots::Spacing;
 
-// A word of which a byte more is read: so many digits and their value, or the whole word, or no word.
-#[derive(Clone, Copy)]
+// A word of which a byte more is read: its digits, or the whole word, which has ended.
+#[derive(Clone, Copy, Debug, PartialEq, Eq)]
 pub enum Word {
-    More(usize, u64),
+    More(Digits),
     Whole(u64),
-    Wrong,
 }
 
 // A digit more of a word, or, after 16, the byte that ends it.
-pub fn word_digit(k: usize, v: u64, b: u8, end: u8) -> Word
-    requires { (k ≤ 16) × (v < 16 ^ k) }
-    ensures { result ≡ word_next k v b end }
+#[tactic(auto, using(card_text::proofs::NumberLaws::word_room), unfolding(crate::specs::Reading::word_next))]
+pub fn word_digit(read: Digits, b: u8, end: u8) -> Option<Word>
+    requires { DigitsOf 16 16 read }
+    ensures { result ≡ word_next read b end }
 {
-    if k == 16 {
-        if b == end {
-            return Word::Whole(v);
-        }
-        return Word::Wrong;
+    if read.count == 16 {
+        return (b == end).then_some(Word::Whole(read.value));
     }
-    let d = card_text::digit(b);
-    if d < 16 {
-        Word::More(k + 1, v * 16 + d)
-    } else {
-        Word::Wrong
-    }
+    let d = card_text::digit(b)?;
+    Some(Word::More(Digits {
+        count: read.count + 1,
+        value: read.value * 16 + d,
+    }))
 }
 
-// A digit more of the degree, or the blank after it.
-pub fn degree(k: usize, v: u64, b: u8) -> State
-    requires { (k ≤ 9) × (v < 10 ^ k) }
-    ensures { result ≡ degree_next k v b }
+// A byte more of a fixed text: `done` after its last, and `more` after another.
+#[tactic(auto, unfolding(crate::specs::Reading::literal_next))]
+fn literal(text: &[u8], k: usize, b: u8, done: State, more: State) -> Option<State>
+    requires { k < length text.now }
+    ensures { result ≡ literal_next text.now k b done more }
 {
-    if b == 32 {
-        if k == 0 {
-            return State::Unreadable;
-        }
-        let d = v as usize;
-        return State::Chordal(d, 0);
+    if b != text[k] {
+        return None;
     }
-    let d = card_text::digit(b);
-    if d < 10 {
-        if k == 0 {
-            return State::Degree(1, d);
-        }
-        if k == 9 {
-            return State::Unreadable;
-        }
-        if v == 0 {
-            return State::Unreadable;
-        }
-        let read = k + 1;
-        let value = v * 10 + d;
-        return State::Degree(read, value);
-    }
-    State::Unreadable
+    Some(if k + 1 == text.len() { done } else { more })
 }
 
 // The first line.
-pub fn names(k: usize, b: u8) -> State
+pub fn names(k: usize, b: u8) -> Option<State>
     requires { k < 25 }
     ensures { result ≡ names_next k b }
 {
-    let line = b"degree spacing tolerance\n";
-    let want = line[k];
-    if b == want {
-        if k == 24 {
-            return State::Degree(0, 0);
-        }
-        return State::Names(k + 1);
-    }
-    State::Unreadable
+    literal(
+        b"degree spacing tolerance\n",
+        k,
+        b,
+        State::Degree(Digits::NONE),
+        State::Names(k + 1),
+    )
 }
 
-// `chordal `, or on to `centripetal `.
-pub fn chordal(d: usize, k: usize, b: u8) -> State
+// A digit more of the degree, or the blank after it. It has nine digits at most, and no needless zero.
+#[tactic(auto, unfolding(crate::specs::Reading::degree_next))]
+pub fn degree(read: Digits, b: u8) -> Option<State>
+    requires { DigitsOf 10 9 read }
+    ensures { result ≡ degree_next read b }
+{
+    if b == b' ' {
+        return (read.count > 0).then_some(State::Chordal(read.value as usize, 0));
+    }
+    let d = card_text::digit(b)?;
+    if d > 9 || read.count == 9 || (read.count > 0 && read.value == 0) {
+        return None;
+    }
+    Some(State::Degree(Digits {
+        count: read.count + 1,
+        value: read.value * 10 + d,
+    }))
+}
+
+// `chordal `, or on to `centripetal `, whose second byte tells it apart.
+pub fn chordal(d: usize, k: usize, b: u8) -> Option<State>
     requires { k < 8 }
     ensures { result ≡ chordal_next d k b }
 {
-    let field = b"chordal ";
-    let want = field[k];
-    if b == want {
-        if k == 7 {
-            return State::Bound(d, Spacing::Chordal, 0, 0);
-        }
-        return State::Chordal(d, k + 1);
+    if k == 1 && b == b'e' {
+        return Some(State::Centripetal(d, 2));
     }
-    if k == 1 {
-        if b == 101 {
-            return State::Centripetal(d, 2);
-        }
-    }
-    State::Unreadable
+    literal(
+        b"chordal ",
+        k,
+        b,
+        State::Bound(d, Spacing::Chordal, Digits::NONE),
+        State::Chordal(d, k + 1),
+    )
 }
 
 // `centripetal `.
-pub fn centripetal(d: usize, k: usize, b: u8) -> State
+pub fn centripetal(d: usize, k: usize, b: u8) -> Option<State>
     requires { k < 12 }
     ensures { result ≡ centripetal_next d k b }
 {
-    let field = b"centripetal ";
-    let want = field[k];
-    if b == want {
-        if k == 11 {
-            return State::Bound(d, Spacing::Centripetal, 0, 0);
-        }
-        return State::Centripetal(d, k + 1);
-    }
-    State::Unreadable
+    literal(
+        b"centripetal ",
+        k,
+        b,
+        State::Bound(d, Spacing::Centripetal, Digits::NONE),
+        State::Centripetal(d, k + 1),
+    )
 }
 
 // The tolerance: `n` begins `none`, all else is a word.
-pub fn bound(d: usize, s: Spacing, k: usize, v: u64, b: u8) -> State
-    requires { (k ≤ 16) × (v < 16 ^ k) }
-    ensures { result ≡ tolerance_next d s k v b }
+pub fn bound(d: usize, s: Spacing, read: Digits, b: u8) -> Option<State>
+    requires { DigitsOf 16 16 read }
+    ensures { result ≡ tolerance_next d s read b }
 {
-    if b == 110 {
-        if k == 0 {
-            return State::Without(d, s, 1);
-        }
-        return State::Unreadable;
+    if read.count == 0 && b == b'n' {
+        return Some(State::Without(d, s, 1));
     }
-    match word_digit(k, v, b, 10) {
-        Word::More(j, w) => State::Bound(d, s, j, w),
+    Some(match word_digit(read, b, b'\n')? {
+        Word::More(read) => State::Bound(d, s, read),
         Word::Whole(w) => State::Axes(
             Head {
                 degree: d,
                 spacing: s,
-                tolerance: Tolerance::Within(w),
+                tolerance: Some(w),
             },
             0,
         ),
-        Word::Wrong => State::Unreadable,
-    }
+    })
 }
 
 // `none` and the newline.
-pub fn without(d: usize, s: Spacing, k: usize, b: u8) -> State
+pub fn without(d: usize, s: Spacing, k: usize, b: u8) -> Option<State>
     requires { k < 5 }
     ensures { result ≡ without_next d s k b }
 {
-    let field = b"none\n";
-    let want = field[k];
-    if b == want {
-        if k == 4 {
-            return State::Axes(
-                Head {
-                    degree: d,
-                    spacing: s,
-                    tolerance: Tolerance::Without,
-                },
-                0,
-            );
-        }
-        return State::Without(d, s, k + 1);
-    }
-    State::Unreadable
+    let head = Head {
+        degree: d,
+        spacing: s,
+        tolerance: None,
+    };
+    literal(
+        b"none\n",
+        k,
+        b,
+        State::Axes(head, 0),
+        State::Without(d, s, k + 1),
+    )
 }
 
 // The names of the coordinates.
-pub fn axes(h: Head, k: usize, b: u8) -> State
+pub fn axes(h: Head, k: usize, b: u8) -> Option<State>
     requires { k < 6 }
     ensures { result ≡ axes_next h k b }
 {
-    let line = b"x y z\n";
-    let want = line[k];
-    if b == want {
-        if k == 5 {
-            return State::X(h, 0, 0, 0);
-        }
-        return State::Axes(h, k + 1);
-    }
-    State::Unreadable
+    literal(
+        b"x y z\n",
+        k,
+        b,
+        State::X(h, 0, Digits::NONE),
+        State::Axes(h, k + 1),
+    )
 }
 
 // A point's first word, its second, and its third.
-pub fn x(h: Head, n: usize, k: usize, v: u64, b: u8) -> State
-    requires { (k ≤ 16) × (v < 16 ^ k) }
-    ensures { result ≡ x_next h n k v b }
+pub fn x(h: Head, n: usize, read: Digits, b: u8) -> Option<State>
+    requires { DigitsOf 16 16 read }
+    ensures { result ≡ x_next h n read b }
 {
-    match word_digit(k, v, b, 32) {
-        Word::More(j, w) => State::X(h, n, j, w),
-        Word::Whole(w) => State::Y(h, n, w, 0, 0),
-        Word::Wrong => State::Unreadable,
-    }
+    Some(match word_digit(read, b, b' ')? {
+        Word::More(read) => State::X(h, n, read),
+        Word::Whole(x) => State::Y(h, n, x, Digits::NONE),
+    })
 }
 
-pub fn y(h: Head, n: usize, x: u64, k: usize, v: u64, b: u8) -> State
-    requires { (k ≤ 16) × (v < 16 ^ k) }
-    ensures { result ≡ y_next h n x k v b }
+pub fn y(h: Head, n: usize, x: u64, read: Digits, b: u8) -> Option<State>
+    requires { DigitsOf 16 16 read }
+    ensures { result ≡ y_next h n x read b }
 {
-    match word_digit(k, v, b, 32) {
-        Word::More(j, w) => State::Y(h, n, x, j, w),
-        Word::Whole(w) => State::Z(h, n, x, w, 0, 0),
-        Word::Wrong => State::Unreadable,
-    }
+    Some(match word_digit(read, b, b' ')? {
+        Word::More(read) => State::Y(h, n, x, read),
+        Word::Whole(y) => State::Z(h, n, x, y, Digits::NONE),
+    })
 }
 
-pub fn z(h: Head, n: usize, x: u64, y: u64, k: usize, v: u64, b: u8) -> State
-    requires { (k ≤ 16) × (v < 16 ^ k) }
-    ensures { result ≡ z_next h n x y k v b }
+// The point of a whole line is laid down, if it is one of the first 64.
+#[tactic(auto, unfolding(crate::specs::Reading::kept))]
+pub fn z(
+    h: Head,
+    n: usize,
+    x: u64,
+    y: u64,
+    read: Digits,
+    b: u8,
+    points: &mut [f64],
+) -> Option<State>
+    requires held { DigitsOf 16 16 read }
+    requires room { PLACES ≤ length points.old }
+    ensures state { result ≡ z_next h n x y read b }
+    ensures points { points.new ≡ kept (State.Z h n x y read) b points.old }
 {
-    match word_digit(k, v, b, 10) {
-        Word::More(j, w) => State::Z(h, n, x, y, j, w),
-        Word::Whole(_) => {
-            if n < 65 {
-                return State::X(h, n + 1, 0, 0);
+    Some(match word_digit(read, b, b'\n')? {
+        Word::More(read) => State::Z(h, n, x, y, read),
+        Word::Whole(z) => {
+            if n < POINTS {
+                crate::lay(n, x, y, z, points);
             }
-            State::X(h, n, 0, 0)
+            State::X(h, n.min(POINTS) + 1, Digits::NONE)
         }
-        Word::Wrong => State::Unreadable,
-    }
+    })
 }

@@ -17,11 +17,9 @@ more-digits b k v d h l =
     let m : suc v * b ≤ b ^ k * b = mul-le-mul_right b h in
     rw (pow-suc b k) (omega arith)
 
-pub more_room : (b m k v d : ℕ) → k < m → v < b ^ k → d < b → v * b + d < b ^ m
-more_room b m k v d r h l =
-    let p : b ^ suc k ≤ b ^ m = pow-le-pow_right (omega arith) r in
-    let q = more-digits b k v d h l in
-    omega arith
+-- a digit more of a word has 64 bits
+pub word_room : (k : ℕ) → k < 16 → 16 ^ k * 16 ≤ 2 ^ 64
+word_room k h = let p : 16 ^ suc k ≤ 16 ^ 16 = pow-le-pow_right (omega arith) h in let q = pow-suc 16 k in omega arith
 
 -- a digit more stands at the end
 pub digits_more : (b k v d : ℕ) → d < b → digits b (k + 1) (v * b + d) ≡ digits b k v ++ (glyph d ∷ [])

@@ -1,22 +1,15 @@
 -- Words, decimals and lines of document 01's texts. A text is a list of bytes. Definitions only.
-use Rattle.std.specs.Prelude.{ℕ, zero, suc, ◌+◌, ◌-◌, ◌/◌, ◌%◌, cond, List, [], ◌∷◌, ◌++◌, ltb, Float}
-use Prim.Native.Char.{code}
-use Prim.Native.String.{String, [] as []ˢ, ◌∷◌ as ◌∷ˢ◌}
+use Rattle.std.specs.Prelude.{ℕ, Option, Some, None, zero, suc, ◌+◌, ◌-◌, ◌/◌, ◌%◌, cond, List, [], ◌∷◌, ◌++◌, codes, ltb, Float}
 use Rattle.std.specs.Float.{binary64}
 use Rattle.std.specs.Float.Ieee.{to_bits}
-
--- the bytes of a quoted text
-abbrev pub ascii : String → List ℕ
-ascii []ˢ = []
-ascii (c ∷ˢ s) = code c ∷ ascii s
 
 -- the byte of a digit below 16: `0` to `9`, then `a` to `f`
 abbrev pub glyph : ℕ → ℕ
 glyph d = cond (ltb d 10) (48 + d) (87 + d)
 
--- and back: the value of a lowercase hexadecimal digit, and 16 for another byte
-unfoldable pub digit_of : ℕ → ℕ
-digit_of b = cond (ltb b 48) 16 (cond (ltb b 58) (b - 48) (cond (ltb b 97) 16 (cond (ltb b 103) (b - 87) 16)))
+-- and back: the value of a lowercase hexadecimal digit, and none of another byte
+unfoldable pub digit_of : ℕ → Option ℕ
+digit_of b = cond (ltb b 48) None (cond (ltb b 58) (Some (b - 48)) (cond (ltb b 97) None (cond (ltb b 103) (Some (b - 87)) None)))
 
 -- the last k digits of n in base b, the highest first
 abbrev pub digits : ℕ → ℕ → ℕ → List ℕ
@@ -47,4 +40,4 @@ line f (g ∷ fs) = f ++ (32 ∷ line g fs)
 
 -- the names before points and before poles
 abbrev pub coordinate_names : List ℕ
-coordinate_names = line (ascii "x") (ascii "y" ∷ ascii "z" ∷ [])
+coordinate_names = line (codes "x") (codes "y" ∷ codes "z" ∷ [])

@@ -1,5 +1,5 @@
 -- The text of a list of words. Definitions only.
-use Rattle.std.specs.Prelude.{ℕ, zero, suc, ◌+◌, ◌*◌, ◌≤◌, ◌<◌, ◌≡◌, List, length, get_or}
+use Rattle.std.specs.Prelude.{ℕ, unwrap_or, IsSome, zero, suc, ◌+◌, ◌*◌, ◌≤◌, ◌<◌, ◌≡◌, List, length, get_or}
 use Rattle.places.specs.Places.{laid}
 use Rattle.card_text.specs.Text.{digit_of}
 use Rattle.replay_list.specs.declared.lines.Word.{Word}
@@ -10,11 +10,11 @@ use Rattle.replay_list.specs.declared.lines.Lines.TheVariants as lines
 -- the number that the k digits from a on write
 unfoldable pub value_of : List ℕ → ℕ → ℕ → ℕ
 value_of s a zero = 0
-value_of s a (suc k) = value_of s a k * 16 + digit_of (get_or s (a + k) 0)
+value_of s a (suc k) = value_of s a k * 16 + unwrap_or (digit_of (get_or s (a + k) 0)) 0
 
 -- from a on stand 16 digits and a newline
 pub record Line (s : List ℕ) (a : ℕ) : Type 0 where
-  pub digits : (k : ℕ) → k < 16 → digit_of (get_or s (a + k) 0) < 16
+  pub digits : (k : ℕ) → k < 16 → IsSome (digit_of (get_or s (a + k) 0))
   pub newline : get_or s (a + 16) 0 ≡ 10
 
 abbrev pub ReadAt : List ℕ → ℕ → Word → Type 0

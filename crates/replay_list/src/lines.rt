@@ -16,16 +16,16 @@ pub enum Lines {
 }
 
 // The word of the line that starts at a place.
+#[tactic(auto, using(card_text::proofs::NumberLaws::word_room))]
 fn word_at(text: &[u8], start: usize) -> Word
     requires { start + 17 ≤ length text.now }
     ensures { ReadAt text.now start result }
 {
     let mut w = 0u64;
     for k in 0..16 {
-        let d = card_text::digit(text[start + k]);
-        if d > 15 {
+        let Some(d) = card_text::digit(text[start + k]) else {
             return Word::Damaged;
-        }
+        };
         w = w * 16 + d;
     }
     if text[start + 16] != 10 {

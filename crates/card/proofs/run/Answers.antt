@@ -5,11 +5,10 @@ use Rattle.card_printer.proofs.PutLaws.{put_front}
 use Rattle.card.proofs.TextLaws.{read_answered}
 use Rattle.card.proofs.run.Goals as goal
 
-pub returns : goal.returns
-returns c =
-    let put = c.answer.ensures in
-    let finish = c.finish in
-    let read = c.read_all-state in
-    let t = read.ensures.0 in
-    let there = put_front _ put.0 in
-    ((t, rw (there.0, finish.ensures.0) (read_answered t _ _ _ (omega arith) read.ensures.1)), there.1, put.1)
+pub returns-clause-answered : goal.returns-clause-answered
+returns-clause-answered c =
+    let read = c.read_all-state.ensures in
+    (read.0, rw ((put_front _ c.answer.ensures.put).0, c.finish.ensures.judged) (read_answered read.0 _ _ _ (omega arith) read.1))
+
+pub returns-clause-rest : goal.returns-clause-rest
+returns-clause-rest c = (put_front _ c.answer.ensures.put).1

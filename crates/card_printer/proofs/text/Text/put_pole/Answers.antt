@@ -1,0 +1,11 @@
+-- The fields one after the other. Assumes nothing.
+use Rattle.card_printer.proofs.PutLaws.{puts_puts}
+use Rattle.card_printer.proofs.text.Text.put_pole.Goals as goal
+
+pub returns-clause-puts : goal.returns-clause-puts
+returns-clause-puts c =
+    puts_puts c.put_double.ensures.puts
+    (puts_puts c.put.ensures
+    (puts_puts c.put_double-2.ensures.puts
+    (puts_puts c.put-2.ensures
+    (puts_puts c.put_double-3.ensures.puts c.put-3.ensures))))
