@@ -114,7 +114,7 @@ fn less_point(poles: &mut [f64], i: usize, factor: f64, q: Point)
 
 // Pivot k of L y = b: multiples of point k off the points after it.
 #[tactic(auto, using(bands::proofs::Rows::loops), unfolding(crate::specs::BandLu::forward_step))]
-fn forward_step(band: &[f64], poles: &mut [f64], h: usize, n: usize, k: usize)
+pub fn forward_step(band: &[f64], poles: &mut [f64], h: usize, n: usize, k: usize)
     requires { HasSystem (2 * h + 1) h n band.now poles.old × (k < n) }
     ensures { poles.new ≡ forward_step h n band.now k poles.old }
 {
@@ -127,7 +127,7 @@ fn forward_step(band: &[f64], poles: &mut [f64], h: usize, n: usize, k: usize)
 
 // L y = b in place.
 #[tactic(auto, using(bands::proofs::Rows::loops))]
-fn forward_steps(band: &[f64], poles: &mut [f64], h: usize, n: usize)
+pub fn forward_steps(band: &[f64], poles: &mut [f64], h: usize, n: usize)
     requires { HasSystem (2 * h + 1) h n band.now poles.old }
     ensures { poles.new ≡ each 0 n (forward_step h n band.now) poles.old }
 {
@@ -147,7 +147,7 @@ fn back_band_row(band: &[f64], poles: &mut [f64], h: usize, n: usize, i: usize)
 
 // U x = y in place.
 #[tactic(auto, using(bands::proofs::Rows::loops))]
-fn back_band_rows(band: &[f64], poles: &mut [f64], h: usize, n: usize)
+pub fn back_band_rows(band: &[f64], poles: &mut [f64], h: usize, n: usize)
     requires { HasSystem (2 * h + 1) h n band.now poles.old }
     ensures { poles.new ≡ down n (back_band_row h n band.now) poles.old }
 {
