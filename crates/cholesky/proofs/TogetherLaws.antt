@@ -1,5 +1,5 @@
 -- Loops over lines that stand one after the other, and over the rows of each of them. Assumes nothing.
-use mathlib.Core.Path.{◌≡◌, refl, sym, ap, ◌∙◌}
+use mathlib.Core.Path.{◌≡◌, sym, ap, ◌∙◌}
 use mathlib.Core.List.{List, ◌++◌}
 use mathlib.Core.Logic.{⊎_elim}
 use Prim.Native.Nat.{ℕ, zero, suc, ◌+◌, ◌-◌, ◌*◌, ◌≤◌, ◌<◌}
@@ -29,12 +29,6 @@ pub record DoneTo (n lines : ℕ) (f : ℕ → List Float → List Float) (w w' 
   pub left : (k : ℕ) → r ≤ k → k < lines → line_at n k w' ≡ line_at n k w
 
 module _ (n lines : ℕ) (f : ℕ → List Float → List Float) (w : List Float) where
-  pub done_none : DoneTo n lines f w w 0
-  done_none = record { long = refl; back = refl; done = λ k h. absurd (omega arith); left = λ k g h. refl }
-
-  pub done_all : (w' : List Float) (r : ℕ) → DoneTo n lines f w w' r → lines ≤ r → EachLine n lines f w w'
-  done_all w' r to h = record { long = to.long; back = to.back; line = λ k g. to.done k (omega arith) }
-
   module _ (keeps : (k : ℕ) (x : List Float) → length x ≡ 3 * n → length (f k x) ≡ 3 * n) (fits : 3 * (lines * n) ≤ length w) where
     pub done_next : (w' w'' : List Float) (r : ℕ) → DoneTo n lines f w w' r → r < lines
         → w'' ≡ splice (3 * (r * n)) (3 * (r * n) + 3 * n) (f r (line_at n r w')) w' → DoneTo n lines f w w'' (r + 1)
@@ -67,9 +61,6 @@ pub record Toward (n lines : ℕ) (F G : ℕ → List Float → List Float) (w�
   pub line : (r : ℕ) → r < lines → F r (line_at n r w) ≡ G r (line_at n r w₀)
 
 module _ (n lines : ℕ) (G : ℕ → List Float → List Float) (w₀ : List Float) where
-  pub toward-start : Toward n lines G G w₀ w₀
-  toward-start = record { long = refl; back = refl; line = λ r h. refl }
-
   module _ (F : ℕ → List Float → List Float) (w : List Float) (to : Toward n lines F G w₀ w) where
     pub toward-turn : (f F' : ℕ → List Float → List Float) (w' : List Float) → EachLine n lines f w w' → ((r : ℕ) (x : List Float) → F' r (f r x) ≡ F r x) → Toward n lines F' G w₀ w'
     toward-turn f F' w' e on =

@@ -150,7 +150,7 @@ fn back_point(lower: &[f64], poles: &[f64], h: usize, n: usize, i: usize) -> Poi
 
 // The same, put in its place.
 #[tactic(auto, unfolding(crate::specs::Cholesky::back_row))]
-fn back_row(lower: &[f64], poles: &mut [f64], h: usize, n: usize, i: usize)
+pub fn back_row(lower: &[f64], poles: &mut [f64], h: usize, n: usize, i: usize)
     requires { HasSystem (h + 1) h n lower.now poles.old × (i < n) }
     ensures { poles.new ≡ back_row h n lower.now i poles.old }
 {

@@ -49,17 +49,29 @@ fn clear_below(rest: &mut [f64], h: usize, pivot: &[f64], inverse: f64)
     }
 }
 
-// Pivot k: what stands after it in its row is taken off the rows below it.
-fn eliminate_pivot(band: &mut [f64], h: usize, n: usize, k: usize)
-    requires { (h ≤ 25) × (k < n) × (n * (2 * h + 1) ≤ length band.old) }
+// Copies a row; for rows as short as a pivot's a loop is faster than `copy_from_slice`.
+fn copy_row(from: &[f64], to: &mut [f64])
+    requires { length to.old ≡ length from.now }
+    ensures { to.new ≡ from.now }
+{
+    for (m, x) in from.iter().enumerate() {
+        to[m] = *x;
+    }
+}
+
+// Pivot k: multiples of what stands after it in its row off the rows below it. It is copied into `room` before, which is faster than to read it beside what is written.
+fn eliminate_pivot(band: &mut [f64], h: usize, n: usize, k: usize, room: &mut [f64])
+    requires { (h ≤ length room.old) × (k < n) × (n * (2 * h + 1) ≤ length band.old) }
     ensures { band.new ≡ eliminate h n k band.old }
 {
     let w = 2 * h + 1;
     let (done, rest) = band.split_at_mut(k * w + w);
     let start = k * w + h + 1;
     let count = (k + h + 1).min(n) - k - 1;
+    let pivot = &mut room[..count];
+    copy_row(&done[start..start + count], pivot);
     let inverse = 1.0 / Band::both(done, h).entry(k, k);
-    clear_below(rest, h, &done[start..start + count], inverse);
+    clear_below(rest, h, pivot, inverse);
 }
 
 // The pivots from `start` on.
@@ -68,8 +80,9 @@ pub fn eliminate_from(band: &mut [f64], h: usize, n: usize, start: usize)
     requires { (h ≤ 25) × (n * (2 * h + 1) ≤ length band.old) }
     ensures { band.new ≡ each start n (eliminate h n) band.old }
 {
+    let mut room = [0.0f64; 25];
     for k in start..n {
-        eliminate_pivot(band, h, n, k);
+        eliminate_pivot(band, h, n, k, &mut room);
     }
 }
 
@@ -101,7 +114,7 @@ fn less_point(poles: &mut [f64], i: usize, factor: f64, q: Point)
 
 // Pivot k of L y = b: multiples of point k off the points after it.
 #[tactic(auto, using(bands::proofs::Rows::loops), unfolding(crate::specs::BandLu::forward_step))]
-fn forward_step(band: &[f64], poles: &mut [f64], h: usize, n: usize, k: usize)
+pub fn forward_step(band: &[f64], poles: &mut [f64], h: usize, n: usize, k: usize)
     requires { HasSystem (2 * h + 1) h n band.now poles.old × (k < n) }
     ensures { poles.new ≡ forward_step h n band.now k poles.old }
 {
@@ -114,7 +127,7 @@ fn forward_step(band: &[f64], poles: &mut [f64], h: usize, n: usize, k: usize)
 
 // L y = b in place.
 #[tactic(auto, using(bands::proofs::Rows::loops))]
-fn forward_steps(band: &[f64], poles: &mut [f64], h: usize, n: usize)
+pub fn forward_steps(band: &[f64], poles: &mut [f64], h: usize, n: usize)
     requires { HasSystem (2 * h + 1) h n band.now poles.old }
     ensures { poles.new ≡ each 0 n (forward_step h n band.now) poles.old }
 {
@@ -134,7 +147,7 @@ fn back_band_row(band: &[f64], poles: &mut [f64], h: usize, n: usize, i: usize)
 
 // U x = y in place.
 #[tactic(auto, using(bands::proofs::Rows::loops))]
-fn back_band_rows(band: &[f64], poles: &mut [f64], h: usize, n: usize)
+pub fn back_band_rows(band: &[f64], poles: &mut [f64], h: usize, n: usize)
     requires { HasSystem (2 * h + 1) h n band.now poles.old }
     ensures { poles.new ≡ down n (back_band_row h n band.now) poles.old }
 {

@@ -4,9 +4,9 @@ use mathlib.Core.List.{List}
 use Prim.Native.Nat.{◌+◌}
 use lib.Ieee.{Float, nan}
 use Rattle.places.specs.Regions.{part, splice}
-use Rattle.places.proofs.RegionLaws.{going_start, going-turn, going_end, get_d_part, length_part}
+use Rattle.places.proofs.RegionLaws.{going_start, going-turn, going_end, get_d_part}
 use Rattle.solving.specs.Steps.{add_row_product}
-use Rattle.solving.proofs.SquareLaws.{length-row_product, pole-row, band-apart}
+use Rattle.solving.proofs.SquareLaws.{length-row_product, band-apart}
 use native.Mathlib.Omega.{arith}
 use Rattle.solving.proofs.squares.add_products.Goals as goal
 
