@@ -4,7 +4,6 @@ use mathlib.Core.Bool.{Bool, true, false, cond}
 use mathlib.Core.List.{List}
 use mathlib.Core.Option.{Option, none, some}
 use Prim.Native.Nat.{ℕ, zero, suc}
-use native.Mathlib.Omega.{arith}
 use lib.ListN.{length}
 use lib.Ieee.{Float}
 use Rattle.geometry.specs.Doubles.{largest}
@@ -58,9 +57,9 @@ module _ (d : Direction) (t : Float) (P : List Float → Type 0) (keeps : (flat 
 
   in_good : (s : Refining) → Good s → (f : Candidate) → fit_in s ≡ some f → Refined d t P f
   unfolding fit_in
-  in_good (going k) h f e = let z : ◌≡◌ {A = ℕ} 0 1 = cc in absurd (omega arith)
+  in_good (going k) h f e = absurd (cc)
   in_good (fitted g) h f e = let q : g ≡ f = cc in subst (Refined d t P) q h
-  in_good stuck h f e = let z : ◌≡◌ {A = ℕ} 0 1 = cc in absurd (omega arith)
+  in_good stuck h f e = absurd (cc)
 
   pub refined_on : P (bezier_knots d.degree) → (f : Candidate) → fit_with_refined_knots d t ≡ some f → Refined d t P f
   unfolding fit_with_refined_knots

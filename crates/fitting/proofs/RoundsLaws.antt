@@ -54,7 +54,7 @@ module _ (d : Direction) (t : Float) where
     where
       by_next : (f : Candidate) (o : Maybe (List Float)) → refined_knots d.params (table_on d flat).firsts (d.deviations f.distances) (largest f.distances) t d.degree flat ≡ o
           → going_on o ≡ going all → (length flat < length all) × (length all ≤ length d.params + d.degree)
-      by_next f none q r = let z : ◌≡◌ {A = ℕ} 0 1 = cc in absurd (omega arith)
+      by_next f none q r = absurd (cc)
       by_next f (some x) q r =
           let z : x ≡ all = cc in
           refined-grows d.params (table_on d flat).firsts (d.deviations f.distances) (largest f.distances) t d.degree flat all (q ∙ ap some z) h
@@ -62,11 +62,11 @@ module _ (d : Direction) (t : Float) where
       by_test : (b : Bool) (f : Candidate)
           → cond b (fitted f) (going_on (refined_knots d.params (table_on d flat).firsts (d.deviations f.distances) (largest f.distances) t d.degree flat)) ≡ going all
           → (length flat < length all) × (length all ≤ length d.params + d.degree)
-      by_test true f r = let z : ◌≡◌ {A = ℕ} 0 1 = cc in absurd (omega arith)
+      by_test true f r = absurd (cc)
       by_test false f r = by_next f (refined_knots d.params (table_on d flat).firsts (d.deviations f.distances) (largest f.distances) t d.degree flat) refl r
 
       by-fit : (o : Maybe Candidate) → judged d t flat o ≡ going all → (length flat < length all) × (length all ≤ length d.params + d.degree)
-      by-fit none r = let z : ◌≡◌ {A = ℕ} 0 1 = cc in absurd (omega arith)
+      by-fit none r = absurd (cc)
       by-fit (some f) r = by_test (largest_within t f.distances) f r
 
   -- any two numbers of rounds that are large enough come to the same

@@ -195,7 +195,7 @@ module _ (d : Direction) (lawful : Lawful d) where
   -- a fit on spread knots has the poles of its count, and an interpolation as many as there are parameters
   private-flat : (flat : List Float) (t : BasisTable) (o : Maybe (List Float)) (f : Candidate) → candidate_of d flat t o ≡ some f → f.flat ≡ flat
   unfolding candidate_of candidate
-  private-flat flat t none f e = let z : ◌≡◌ {A = ℕ} 0 1 = cc in absurd (omega arith)
+  private-flat flat t none f e = absurd (cc)
   private-flat flat t (some poles) f e = let q : candidate d flat t poles ≡ f = cc in sym (ap (λ (x : Candidate). x.flat) q)
 
   pub spread-flat : (c : ℕ) (f : Candidate) → fit_on_spread d c ≡ some f → f.flat ≡ approximation_knots d.params c d.degree

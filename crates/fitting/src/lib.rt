@@ -11,7 +11,7 @@ ghost use Rattle.fitting.specs.Marks.{largest_deviation, mark_number};
 use tables::{Data, Measured, Table};
 
 // Which step gave the knots and poles that are handed out, with the largest computed deviation: document 01's refined, spread, interpolated and chosen.
-#[derive(Clone, Copy)]
+#[derive(Clone, Copy, Debug, PartialEq)]
 pub enum Mark {
     Refined(f64),
     Spread(f64),
@@ -25,10 +25,7 @@ impl Mark {
         ensures { result ≡ largest_deviation self }
     {
         match self {
-            Mark::Refined(x) => x,
-            Mark::Spread(x) => x,
-            Mark::Interpolated(x) => x,
-            Mark::Chosen(x) => x,
+            Mark::Refined(x) | Mark::Spread(x) | Mark::Interpolated(x) | Mark::Chosen(x) => x,
         }
     }
 
@@ -46,7 +43,7 @@ impl Mark {
 }
 
 // The mark beside the counts: poles, distinct knots, unreadable deviations.
-#[derive(Clone, Copy)]
+#[derive(Clone, Copy, Debug, PartialEq)]
 pub struct Fit {
     pub mark: Mark,
     pub poles: usize,

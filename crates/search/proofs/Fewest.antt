@@ -2,11 +2,12 @@
 -- fails; and of a test that passes more counts no more poles are found. Assumes nothing.
 use mathlib.Core.Path.{◌≡◌, refl, sym, ◌∙◌, ap, subst}
 use mathlib.Core.Logic.{◌⊎◌, inl, inr}
-use mathlib.Core.Bool.{Bool, true, false, cond, true≢false}
+use mathlib.Core.Bool.{Bool, true, false, true≢false}
 use Prim.Native.Nat.{ℕ, zero, suc, ◌-◌, ◌≤◌, ◌<◌}
 use native.Mathlib.Omega.{arith}
 use lib.Dec.{leb, ltb}
 use Rattle.std.specs.Prelude.{Some, None}
+use Rattle.std.proofs.lemmas.Bool.Decides.{nat_tests}
 use borrow.Author.Tests.{ltb-true, ltb-false, leb-true, leb-false, lt-ltb}
 use Rattle.search.specs.declared.Search.{Search}
 use Rattle.search.specs.Search.{start, width, count_of, turn, turns, answer, fewest}
@@ -14,18 +15,10 @@ use Rattle.search.proofs.SearchLaws.{Holds, start_holds, turns_hold, turns_over,
 
 -- ---- the answer by its two cases
 pub answer-some : (last : ℕ) (s : Search) (c : ℕ) → answer last s ≡ Some c → (s.high < last) × (s.high ≡ c)
-answer-some last s c e = go (ltb s.high last) refl e
-  where
-    go : (b : Bool) → ltb s.high last ≡ b → cond b (Some s.high) None ≡ Some c → (s.high < last) × (s.high ≡ c)
-    go true f e = (ltb-true _ _ f, cc)
-    go false f e = let z : ◌≡◌ {A = ℕ} 0 1 = cc in omega arith
+answer-some last s c e = grind (arith, nat_tests)
 
 pub answer-none : (last : ℕ) (s : Search) → answer last s ≡ None → last ≤ s.high
-answer-none last s e = go (ltb s.high last) refl e
-  where
-    go : (b : Bool) → ltb s.high last ≡ b → cond b (Some s.high) None ≡ None → last ≤ s.high
-    go true f e = let z : ◌≡◌ {A = ℕ} 0 1 = cc in omega arith
-    go false f e = ltb-false _ _ f
+answer-none last s e = grind (arith, nat_tests)
 
 pub answer_below : (last : ℕ) (s : Search) → s.high < last → answer last s ≡ Some s.high
 answer_below last s h = rw (lt-ltb _ _ h)

@@ -6,6 +6,7 @@ use Prim.Native.Nat.{ℕ, zero, suc, ◌+◌, ◌*◌, ◌/◌, ◌≤◌, ◌<�
 use native.Mathlib.Omega.{arith}
 use lib.Dec.{leb}
 use Rattle.std.specs.Prelude.{Some, None}
+use Rattle.std.proofs.lemmas.Bool.Decides.{nat_tests}
 use borrow.Author.Tests.{ltb-true, leb-true, leb-false, le-leb, lt-leb}
 use Rattle.search.specs.declared.Search.{Search}
 use Rattle.search.specs.Bounds.{Bounded}
@@ -137,30 +138,15 @@ module _ (passes : ℕ → Bool) (degree last : ℕ) where
 
 -- what `next_of` says
 pub next_try : (s : Search) (n : ℕ) → next_of s ≡ Some n → (1 < width s) × (n ≡ count_of s)
-next_try s n e = go (leb (width s) 1) refl e
-  where
-    go : (b : Bool) → leb (width s) 1 ≡ b → cond b None (Some (count_of s)) ≡ Some n → (1 < width s) × (n ≡ count_of s)
-    go true f e = let z : ◌≡◌ {A = ℕ} 0 1 = cc in omega arith
-    go false f e = (leb-false _ _ f, cc)
+next_try s n e = grind (arith, nat_tests)
 
 pub next_done : (s : Search) → next_of s ≡ None → width s ≤ 1
-next_done s e = go (leb (width s) 1) refl e
-  where
-    go : (b : Bool) → leb (width s) 1 ≡ b → cond b None (Some (count_of s)) ≡ None → width s ≤ 1
-    go true f e = leb-true _ _ f
-    go false f e = let z : ◌≡◌ {A = ℕ} 0 1 = cc in omega arith
+next_done s e = grind (arith, nat_tests)
 
 -- ---- a loop over `next`: what holds of the count that it gives
 
 pub try_between : (s : Search) (n : ℕ) → 1 ≤ s.step → next_of s ≡ Some n → (s.low < n) × (n < s.high)
 try_between s n p e = let t = next_try s n e in rw t.1 (between s p t.0)
-
--- the measure falls, either way
-pub fitted_narrower : (s : Search) (n : ℕ) → 1 ≤ s.step → next_of s ≡ Some n → width (fitted_at s n) < width s
-fitted_narrower s n p e = let b = try_between s n p e in omega (arith, b.0, b.1)
-
-pub failed_narrower : (s : Search) (n : ℕ) → 1 ≤ s.step → next_of s ≡ Some n → width (failed_at s n) < width s
-failed_narrower s n p e = let b = try_between s n p e in omega (arith, b.0, b.1)
 
 -- what the arithmetic wants
 module _ (passes : ℕ → Bool) (degree last : ℕ) where
