@@ -55,8 +55,8 @@ pub fn fit_with_refined_knots(
     requires { HasJob job points.now work.old index.old }
     ensures { RefinesWithin job points.now tolerance work.old work.new index.old index.new result }
 {
-    knots::clamped::bezier_knots(work, job.table.degree, job.flat);
     let mut l = 2 * job.table.degree + 2;
+    knots::clamped::bezier_knots(job.table.degree, &mut work[job.flat..job.flat + l]);
     loop {
         match turn(work, index, points, job, l, tolerance) {
             Turn::Ended => {

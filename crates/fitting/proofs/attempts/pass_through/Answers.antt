@@ -1,27 +1,33 @@
 -- The knots stand behind the parameters, the table behind the knots, the poles behind the table, and the deviations last: each step leaves what it reads. Assumes nothing.
-use Rattle.fitting.proofs.AttemptLaws.{through_requires, through-measures, passes}
+use Rattle.fitting.proofs.AttemptLaws.{put-averaged, through_requires, through-measures, passes}
 use Rattle.fitting.proofs.attempts.pass_through.Goals as goal
 
 pub interpolation-requires : goal.interpolation-requires
 interpolation-requires c =
     let a = c.args in
+    let s = c.split_at_mut-head.ensures in
     let k = c.averaged_knots in
+    let put = put-averaged a.job a.points.now a.work.now a.index.now c.requires _ _ k.new.flat s.front s.back k.ensures in
     let f = c.fill_table in
-    through_requires a.job a.points.now a.work.now a.index.now c.requires k.new.work k.ensures f.new.work f.new.index f.ensures.index_after f.ensures.work_after
+    through_requires a.job a.points.now a.work.now a.index.now c.requires _ put f.new.work f.new.index f.ensures.index_after f.ensures.work_after
 
 pub measure-requires : goal.measure-requires
 measure-requires c =
     let a = c.args in
+    let s = c.split_at_mut-head.ensures in
     let k = c.averaged_knots in
+    let put = put-averaged a.job a.points.now a.work.now a.index.now c.requires _ _ k.new.flat s.front s.back k.ensures in
     let f = c.fill_table in
     let q = c.interpolation in
-    through-measures a.job a.points.now a.work.now a.index.now c.requires k.new.work k.ensures f.new.work f.new.index f.ensures.index_after f.ensures.work_after q.new.work q.ensures
+    through-measures a.job a.points.now a.work.now a.index.now c.requires _ put f.new.work f.new.index f.ensures.index_after f.ensures.work_after q.new.work q.ensures
 
 pub returns : goal.returns
 returns c =
     let a = c.args in
+    let s = c.split_at_mut-head.ensures in
     let k = c.averaged_knots in
+    let put = put-averaged a.job a.points.now a.work.now a.index.now c.requires _ _ k.new.flat s.front s.back k.ensures in
     let f = c.fill_table in
     let q = c.interpolation in
     let g = c.measure in
-    passes a.job a.points.now a.work.now a.index.now c.requires k.new.work k.ensures f.new.work f.new.index f.ensures.index_after f.ensures.work_after q.new.work q.ensures g.new.work g.result g.ensures
+    passes a.job a.points.now a.work.now a.index.now c.requires _ put f.new.work f.new.index f.ensures.index_after f.ensures.work_after q.new.work q.ensures g.new.work g.result g.ensures
