@@ -13,6 +13,7 @@ use bspline::{Refusal, Verdict};
 use checks::{Call, Room};
 use fitting::{Fit, Job};
 use knots::Metric;
+use knots::lines::Line;
 use making::Made;
 use tables::{Data, Table};
 
@@ -121,8 +122,14 @@ fn fit_passed(
         (lent poles.new flat.new knots.new mults.new work.new index.new) result }
 {
     let n = points.len() / 3;
-    if !knots::parameters::point_parameters(points, 0, 1, n, metric, work) {
-        return Answer::Refused(Refusal::ConfusedPoints);
+    let line = Line {
+        points,
+        start: 0,
+        stride: 1,
+        count: n,
+    };
+    if let Err(c) = knots::parameters::point_parameters(line, metric, work) {
+        return Answer::Refused(c);
     }
     let job = ladder_job(n, degree, metric.factor);
     hand_made(points, job, call, poles, flat, knots, mults, work, index)
