@@ -10,6 +10,7 @@ use bspline::{Refusal, Verdict};
 use checks::{Shape, SurfaceCall};
 use fitting::Job;
 use knots::Metric;
+use knots::lines::Lines;
 use making::{Made, Standing};
 
 // The columns' fit over the rows' fit x, which stands in the work.
@@ -109,19 +110,25 @@ pub fn fit_passed(
 {
     let rows = shape.rows;
     let cols = shape.cols;
-    if !knots::parameters::shared_parameters(points, cols, 1, rows, cols, metric, work) {
-        return GridAnswer::Refused(Refusal::ConfusedPoints);
-    }
-    if !knots::parameters::shared_parameters(
+    let columns = Lines {
         points,
-        rows,
-        cols,
-        cols,
-        1,
-        metric,
-        &mut work[rows..],
-    ) {
-        return GridAnswer::Refused(Refusal::ConfusedPoints);
+        lines: cols,
+        pitch: 1,
+        count: rows,
+        stride: cols,
+    };
+    if let Err(c) = knots::parameters::shared_parameters(columns, metric, work) {
+        return GridAnswer::Refused(c);
+    }
+    let lines = Lines {
+        points,
+        lines: rows,
+        pitch: cols,
+        count: cols,
+        stride: 1,
+    };
+    if let Err(c) = knots::parameters::shared_parameters(lines, metric, &mut work[rows..]) {
+        return GridAnswer::Refused(c);
     }
     match checks::grid::check_counts(call, shape) {
         Verdict::Stop(c) => GridAnswer::Refused(c),

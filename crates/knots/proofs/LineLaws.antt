@@ -1,17 +1,16 @@
 -- The lines of a ladder and of a grid: their points, and the parameters that depend on nothing else. Assumes nothing.
 use mathlib.Core.Path.{◌≡◌, ap}
 use mathlib.Core.List.{List}
-use Prim.Native.Nat.{ℕ, ◌+◌, ◌-◌, ◌*◌, ◌^◌, ◌<◌, ◌≤◌}
+use Prim.Native.Nat.{ℕ, ◌+◌, ◌-◌, ◌*◌, ◌<◌}
 use native.Mathlib.Omega.{arith}
-use lib.ListN.{length}
 use lib.Ieee.{Float}
 use Rattle.places.proofs.LoopLaws.{each_cong}
-use Rattle.places.proofs.PlaceLaws.{list_of-same, row_inside}
+use Rattle.places.proofs.PlaceLaws.{list_of-same}
 use Rattle.geometry.specs.declared.Point.{Point}
 use Rattle.geometry.specs.Points.{point_at}
 use Rattle.knots.specs.declared.Metric.{Metric}
 use Rattle.knots.specs.Parameters.{chords, point_parameters, Lines, add_line, added_lines, shared_parameters}
-use Rattle.knots.specs.Lines.{line_of, lines_of, HasLines}
+use Rattle.knots.specs.Lines.{line_of, lines_of}
 
 -- ---- only the points below the count matter
 
@@ -45,10 +44,3 @@ rows_same v rows cols s = shared_same v rows cols _ _ (λ i j h k. let e : i * c
 
 pub columns-same : (v : Metric) (rows cols : ℕ) (s : List Float) → shared_parameters v cols rows (lines_of s 1 cols) ≡ shared_parameters v cols rows (λ j i. point_at s (i * cols + j))
 columns-same v rows cols s = shared_same v cols rows _ _ (λ j i h k. let e : j * 1 + cols * i ≡ i * cols + j = omega arith in ap (point_at s) e)
-
-module _ (rows cols : ℕ) (s : List Float) (r : 2 ≤ rows) (c : 2 ≤ cols) (l : 3 * (rows * cols) ≤ length s) where
-  pub rows_inside : rows ≤ 2 ^ 53 → HasLines s rows cols cols 1
-  rows_inside h = record { two = c; few = h; last = omega (arith, row_inside (rows - 1) rows cols (omega arith)) }
-
-  pub columns_in : cols ≤ 2 ^ 53 → HasLines s cols 1 rows cols
-  columns_in h = record { two = r; few = h; last = omega (arith, row_inside (rows - 1) rows cols (omega arith)) }
