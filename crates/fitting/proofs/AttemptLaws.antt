@@ -2,17 +2,17 @@
 -- Assumes nothing.
 use mathlib.Core.Path.{◌≡◌, refl, sym, ◌∙◌, ap, subst}
 use mathlib.Core.Bool.{true, false}
-use mathlib.Core.List.{List}
+use mathlib.Core.List.{List, ◌++◌}
 use mathlib.Core.Option.{some}
 use Prim.Native.Nat.{ℕ, ◌+◌, ◌-◌, ◌*◌, ◌≤◌, ◌<◌}
 use native.Mathlib.Omega.{arith}
 use native.Mathlib.Nat.{mul-le-mul_right}
 use lib.Dec.{eqb}
-use lib.ListN.{length}
+use lib.ListN.{length, take, drop}
 use lib.Ieee.{Float}
 use Rattle.std.specs.Prelude.{Option, Some, None}
 use Rattle.places.specs.Regions.{part, splice}
-use Rattle.places.proofs.RegionLaws.{length_part, part-splice}
+use Rattle.places.proofs.RegionLaws.{length_part, part-splice, part-take}
 use Rattle.geometry.specs.declared.Point.{Point}
 use Rattle.knots.specs.Knots.{averaged_knots, approximation_knots}
 use Rattle.knots.proofs.KnotLaws.{length-averaged, length-spread}
@@ -329,6 +329,25 @@ module _ (j : Job) (points w : List Float) (index : List ℕ) (has : HasJob j po
 
 -- ---- on knots that are put there first
 
+-- the l knots of the parameters, put at the front of what stands behind the first f places
+put_behind : (f l b e : ℕ) (knots : List Float → List Float) (w head tail ys : List Float) → b ≤ e → e ≤ f → head ≡ take f w → tail ≡ drop f w → ys ≡ knots (part b e head)
+    → head ++ (ys ++ drop l tail) ≡ splice f (f + l) (knots (part b e w)) w
+put_behind f l b e knots w head tail ys g h p q r =
+    let z : f + l - f ≡ l = omega arith in
+    let same : ys ≡ knots (part b e w) = r ∙ ap knots (ap (part b e) p ∙ part-take b e f w g h) in
+    rw (p, q, same, z)
+
+module _ (j : Job) (points w : List Float) (index : List ℕ) (has : HasJob j points w index) (head tail ys : List Float) (p : head ≡ take j.flat w) (q : tail ≡ drop j.flat w) where
+  pub put-averaged : ys ≡ averaged_knots (part j.params (j.params + j.table.count) head) j.table.degree
+      → head ++ (ys ++ drop (j.table.count + j.table.degree + 1) tail) ≡ splice j.flat (j.flat + (j.table.count + j.table.degree + 1)) (averaged_knots (part j.params (j.params + j.table.count) w) j.table.degree) w
+  put-averaged r =
+      put_behind j.flat (j.table.count + j.table.degree + 1) j.params (j.params + j.table.count) (λ (v : List Float). averaged_knots v j.table.degree) w head tail ys (omega arith) has.params_in p q r
+
+  pub put_spread : (m : ℕ) → ys ≡ approximation_knots (part j.params (j.params + j.table.count) head) m j.table.degree
+      → head ++ (ys ++ drop (m + j.table.degree + 1) tail) ≡ splice j.flat (j.flat + (m + j.table.degree + 1)) (approximation_knots (part j.params (j.params + j.table.count) w) m j.table.degree) w
+  put_spread m r =
+      put_behind j.flat (m + j.table.degree + 1) j.params (j.params + j.table.count) (λ (v : List Float). approximation_knots v m j.table.degree) w head tail ys (omega arith) has.params_in p q r
+
 module _ (j : Job) (points w : List Float) (index : List ℕ) (has : HasJob j points w index) (l : ℕ) (knots : HasKnots j l) (wₖ ys : List Float)
     (size : length ys ≡ l) (a : wₖ ≡ splice j.flat (j.flat + l) ys w) where
   flat-room : j.flat + l ≤ length w
@@ -370,7 +389,7 @@ pub most-knots : (j : Job) → j.table.degree < j.table.count → HasKnots j (j.
 most-knots j h = record { least = omega arith; most = omega arith }
 
 module _ (j : Job) (points w : List Float) (index : List ℕ) (has : HasJob j points w index) (wₖ : List Float)
-    (a : wₖ ≡ splice j.flat (j.flat + j.table.count + j.table.degree + 1) (averaged_knots (part j.params (j.params + j.table.count) w) j.table.degree) w) where
+    (put : wₖ ≡ splice j.flat (j.flat + (j.table.count + j.table.degree + 1)) (averaged_knots (part j.params (j.params + j.table.count) w) j.table.degree) w) where
   abbrev most : ℕ
   most = j.table.count + j.table.degree + 1
 
@@ -385,9 +404,6 @@ module _ (j : Job) (points w : List Float) (index : List ℕ) (has : HasJob j po
       length-averaged (part j.params (j.params + j.table.count) w) j.table.degree
       ∙ ap (λ (n : ℕ). n + j.table.degree + 1)
       (length_part j.params (j.params + j.table.count) w (omega (arith, (fills j points w index has most full).params_before, (fills j points w index has most full).values_in)) ∙ omega arith)
-
-  put : wₖ ≡ splice j.flat (j.flat + most) averaged w
-  put = let z : j.flat + j.table.count + j.table.degree + 1 ≡ j.flat + most = omega arith in a ∙ ap (λ (n : ℕ). splice j.flat n averaged w) z
 
   pub has-averaged : HasJob j points wₖ index
   has-averaged = has_job_put j points w index has most full wₖ averaged size-averaged put
@@ -441,7 +457,7 @@ pub spread-knots : (j : Job) (m : ℕ) → j.table.degree < m → m ≤ j.table.
 spread-knots j m h k = record { least = omega arith; most = omega arith }
 
 module _ (j : Job) (points w : List Float) (index : List ℕ) (has : HasJob j points w index) (n : ℕ) (low : j.table.degree < n) (high : n ≤ j.table.count) (wₖ : List Float)
-    (a : wₖ ≡ splice j.flat (j.flat + n + j.table.degree + 1) (approximation_knots (part j.params (j.params + j.table.count) w) n j.table.degree) w) where
+    (put-spread : wₖ ≡ splice j.flat (j.flat + (n + j.table.degree + 1)) (approximation_knots (part j.params (j.params + j.table.count) w) n j.table.degree) w) where
   abbrev some-knots : HasKnots j (n + j.table.degree + 1)
   some-knots = spread-knots j n low high
 
@@ -450,11 +466,6 @@ module _ (j : Job) (points w : List Float) (index : List ℕ) (has : HasJob j po
 
   size-spread : length spread_out ≡ n + j.table.degree + 1
   size-spread = length-spread (part j.params (j.params + j.table.count) w) n j.table.degree
-
-  put-spread : wₖ ≡ splice j.flat (j.flat + (n + j.table.degree + 1)) spread_out w
-  put-spread =
-      let z : j.flat + n + j.table.degree + 1 ≡ j.flat + (n + j.table.degree + 1) = omega arith in
-      a ∙ ap (λ (k : ℕ). splice j.flat k spread_out w) z
 
   pub spread_attempt : HasJob j points wₖ index × HasKnots j (n + j.table.degree + 1)
   spread_attempt = (has_job_put j points w index has (n + j.table.degree + 1) some-knots wₖ spread_out size-spread put-spread, some-knots)

@@ -333,8 +333,12 @@ module _ (j : Job) (points : List Float) (t : Float) (w₀ : List Float) (index�
 
 -- ---- from the knots of a single piece, which are put there first
 
+pub piece_put : (j : Job) (w ys : List Float) → ys ≡ bezier_knots j.table.degree
+    → splice j.flat (j.flat + (2 * j.table.degree + 2)) ys w ≡ splice j.flat (j.flat + (2 * j.table.degree + 2)) (bezier_knots j.table.degree) w
+piece_put j w ys e = ap (λ (v : List Float). splice j.flat (j.flat + (2 * j.table.degree + 2)) v w) e
+
 module _ {j : Job} {points w : List Float} {index : List ℕ} (has : HasJob j points w index) {w₀ : List Float}
-    (a : w₀ ≡ splice j.flat (j.flat + (j.table.degree + 1) + j.table.degree + 1) (bezier_knots j.table.degree) w) where
+    (put : w₀ ≡ splice j.flat (j.flat + (2 * j.table.degree + 2)) (bezier_knots j.table.degree) w) where
   abbrev few : ℕ
   few = 2 * j.table.degree + 2
 
@@ -343,9 +347,6 @@ module _ {j : Job} {points w : List Float} {index : List ℕ} (has : HasJob j po
 
   size : length piece ≡ few
   size = length_bezier j.table.degree ∙ omega arith
-
-  put : w₀ ≡ splice j.flat (j.flat + few) piece w
-  put = let z : j.flat + (j.table.degree + 1) + j.table.degree + 1 ≡ j.flat + few = omega arith in a ∙ ap (λ (n : ℕ). splice j.flat n piece w) z
 
   kept_piece : Kept j.flat (j.flat + few) w w₀
   kept_piece = kept-knots j points w index has few (first-knots j has.under) w₀ piece size put

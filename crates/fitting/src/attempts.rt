@@ -62,8 +62,11 @@ pub fn attempt_spread(
     ensures { AttemptsSpread job points.now m work.old work.new index.old index.new result }
 {
     let table = job.table;
-    knots::clamped::approximation_knots(work, job.params, table.count, m, table.degree, job.flat);
-    attempt(work, index, points, job, m + table.degree + 1)
+    let l = m + table.degree + 1;
+    let (head, tail) = work.split_at_mut(job.flat);
+    let params = &head[job.params..job.params + table.count];
+    knots::clamped::approximation_knots(params, m, table.degree, &mut tail[..l]);
+    attempt(work, index, points, job, l)
 }
 
 // Interpolation on averaged knots.
@@ -73,9 +76,11 @@ pub fn pass_through(work: &mut [f64], index: &mut [usize], points: &[f64], job: 
 {
     let table = job.table;
     let n = table.count;
-    let end = job.flat + (n + table.degree + 1);
-    knots::clamped::averaged_knots(work, job.params, n, table.degree, job.flat);
-    tables::basis_table::fill_table(work, index, table, job.flat, end, job.params);
+    let l = n + table.degree + 1;
+    let (head, tail) = work.split_at_mut(job.flat);
+    let params = &head[job.params..job.params + n];
+    knots::clamped::averaged_knots(params, table.degree, &mut tail[..l]);
+    tables::basis_table::fill_table(work, index, table, job.flat, job.flat + l, job.params);
     solving::through::interpolation(work, index, points, table, job.given, job.band, job.poles);
     measure(work, index, points, job, n)
 }

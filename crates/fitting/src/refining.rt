@@ -50,8 +50,8 @@ pub fn fit_with_refined_knots(
 {
     let table = job.table;
     let end = table.firsts + table.count;
-    knots::clamped::bezier_knots(work, table.degree, job.flat);
     let mut flat = 2 * table.degree + 2;
+    knots::clamped::bezier_knots(table.degree, &mut work[job.flat..job.flat + flat]);
     loop {
         let measured = attempt(work, index, points, job, flat)?;
         if measured.largest <= tolerance {

@@ -11,6 +11,8 @@ use checks::grid::check_counts;
 use checks::{Shape, SurfaceCall};
 use fitting::Job;
 use knots::Metric;
+use knots::lines::Lines;
+use knots::parameters::shared_parameters;
 use making::Standing;
 
 // The columns' fit over the rows' fit x, which stands in the work.
@@ -101,20 +103,22 @@ pub fn fit_passed(
 {
     let rows = shape.rows;
     let cols = shape.cols;
-    if !knots::parameters::shared_parameters(points, cols, 1, rows, cols, metric, work) {
-        return Err(Refusal::ConfusedPoints);
-    }
-    if !knots::parameters::shared_parameters(
+    let columns = Lines {
         points,
-        rows,
-        cols,
-        cols,
-        1,
-        metric,
-        &mut work[rows..],
-    ) {
-        return Err(Refusal::ConfusedPoints);
-    }
+        lines: cols,
+        pitch: 1,
+        count: rows,
+        stride: cols,
+    };
+    shared_parameters(columns, metric, work)?;
+    let lines = Lines {
+        points,
+        lines: rows,
+        pitch: cols,
+        count: cols,
+        stride: 1,
+    };
+    shared_parameters(lines, metric, &mut work[rows..])?;
     check_counts(call, shape)?;
     fit_rows(
         points,

@@ -5,7 +5,7 @@ ghost use Rattle.knots.specs.Parameters.{metric_of};
 ghost use Rattle.telling.specs.ToldGrid.{shape_of, ToldGrid, ToldGridWithin};
 
 use checks::{Shape, SurfaceCall};
-use knots::metric_of;
+use knots::Metric;
 use telling::grid::call_grid;
 
 // Least squares with chosen pole counts along u and v.
@@ -47,7 +47,7 @@ pub extern "C" fn nigorzai_approximate_grid(
     call_grid(
         points,
         shape,
-        metric_of(spacing, factor),
+        Metric::new(spacing, factor),
         call,
         poles,
         uflat,
@@ -101,7 +101,7 @@ pub extern "C" fn nigorzai_approximate_grid_within(
     call_grid(
         points,
         shape,
-        metric_of(spacing, factor),
+        Metric::new(spacing, factor),
         call,
         poles,
         uflat,

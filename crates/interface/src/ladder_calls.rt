@@ -5,7 +5,7 @@ ghost use Rattle.knots.specs.Parameters.{metric_of};
 ghost use Rattle.telling.specs.Told.{Told, ToldWithin, ToldSpread};
 
 use checks::Call;
-use knots::metric_of;
+use knots::Metric;
 use telling::ladder::call_ladder;
 
 // The curve through the points, with as many poles.
@@ -33,7 +33,7 @@ pub extern "C" fn nigorzai_interpolate(
     call_ladder(
         points,
         degree,
-        metric_of(spacing, factor),
+        Metric::new(spacing, factor),
         call,
         poles,
         flat,
@@ -72,7 +72,7 @@ pub extern "C" fn nigorzai_approximate(
     call_ladder(
         points,
         degree,
-        metric_of(spacing, factor),
+        Metric::new(spacing, factor),
         call,
         poles,
         flat,
@@ -111,7 +111,7 @@ pub extern "C" fn nigorzai_approximate_within(
     call_ladder(
         points,
         degree,
-        metric_of(spacing, factor),
+        Metric::new(spacing, factor),
         call,
         poles,
         flat,
@@ -150,7 +150,7 @@ pub extern "C" fn nigorzai_search_spread(
     call_ladder(
         points,
         degree,
-        metric_of(spacing, factor),
+        Metric::new(spacing, factor),
         call,
         poles,
         flat,

@@ -2,22 +2,24 @@
 use mathlib.Core.Path.{◌≡◌, refl, sym, ◌∙◌, ap, subst}
 use mathlib.Core.Logic.{⊎_elim}
 use mathlib.Core.Bool.{cond}
-use mathlib.Core.List.{List}
+use mathlib.Core.List.{List, ◌++◌}
 use Prim.Native.Nat.{ℕ, ◌+◌, ◌-◌, ◌<◌, ◌≤◌}
-use native.Mathlib.Numerals.{add-one}
 use native.Mathlib.Omega.{arith}
 use borrow.Author.Tests.{lt-ltb, le-ltb, le-leb, lt-leb}
 use lib.Dec.{T, leb, ltb}
-use lib.ListN.{length, set, get_or-eq_default}
+use lib.ListN.{length, take, drop, replicate, length-append, length-drop, length-replicate, get_or-append, get_or-replicate, get_or-eq_default}
+use lib.Seq.{get_or-drop, length-take-le}
+use Rattle.std.proofs.lemmas.List.{get_or-append_right}
 use lib.Ieee.{Float, nan, inf, fin, binary64, fits, of_bits, add, mul, div}
 use lib.Ieee.Bits.{of_bits-fits}
 use lib.Ieee.Fits.{nan-fits, add-fits, div-fits, cond-fits}
-use Rattle.places.specs.Places.{laid, list_of}
+use Rattle.places.specs.Places.{list_of}
 use Rattle.places.specs.Regions.{part, splice}
-use Rattle.places.proofs.PlaceLaws.{length-list_of, list_of-at, le-or-lt, laid_none, laid_next, laid_join, laid-below, part-before-laid, laid-order, laid_region}
-use Rattle.places.proofs.RegionLaws.{get_d_part, length_part}
-use Rattle.geometry.specs.Doubles.{◌⊕◌, ◌⊖◌, ◌⊗◌, ◌⊘◌, nought, one, double, whole_part, at, sum_below}
-use Rattle.knots.specs.Knots.{clamped_knots, bezier_knots, carried, averaged_knot, averaged_knots, between_places, spread_knot, approximation_knots}
+use Rattle.places.proofs.PlaceLaws.{length-list_of, list_of-at, list_of-same, le-or-lt}
+use Rattle.places.proofs.RegionLaws.{length_part, length-splice, get_or_in, get_or-before}
+use Rattle.geometry.specs.Doubles.{◌⊕◌, ◌⊗◌, ◌⊘◌, nought, one, whole_part, at}
+use Rattle.knots.specs.Knots.{clamped_knots, bezier_knots, averaged_knot, averaged_knots, between_places, spread_knot, approximation_knots}
+use Rattle.knots.proofs.ParameterLaws.{list_by}
 
 -- ---- clamped knots
 
@@ -41,84 +43,82 @@ pub length_bezier : (p : ℕ) → length (bezier_knots p) ≡ p + 1 + p + 1
 unfolding bezier_knots
 length_bezier p = length_clamped (p + 1) p _
 
--- the inner knots are laid first, then the two ends
-pub clamped-laid : (m p flat : ℕ) (inner : ℕ → Float) (w w₁ w₂ : List Float) → p < m → flat + m + p + 1 ≤ length w
-    → w₁ ≡ laid (flat + (p + 1)) (m - p - 1) inner w
-    → w₂ ≡ laid (flat + m) (p + 1) (λ (k : ℕ). one) (laid flat (p + 1) (λ (k : ℕ). nought) w₁)
-    → w₂ ≡ splice flat (flat + m + p + 1) (clamped_knots m p inner) w
-unfolding clamped_knots flat_knot
-clamped-laid m p flat inner w w₁ w₂ h room e₁ e₂ =
-    let knot : ℕ → Float = flat_knot m p inner in
-    let a : p + 1 + (m - p - 1) ≡ m = omega arith in
-    let b : m + (p + 1) ≡ m + p + 1 = omega arith in
-    let d : flat + (m + p + 1) ≡ flat + m + p + 1 = omega arith in
-    let low : (k : ℕ) → k < p + 1 → nought ≡ knot k = λ k i. rw (le-leb k p (omega arith)) in
-    let mid : (k : ℕ) → k < m - p - 1 → inner k ≡ knot (p + 1 + k) =
-    λ k i. let z : p + 1 + k - (p + 1) ≡ k = omega arith in rw (lt-leb (p + 1 + k) p (omega arith), lt-ltb (p + 1 + k) m (omega arith), z) in
-    let high : (k : ℕ) → k < p + 1 → one ≡ knot (m + k) = λ k i. rw (lt-leb (m + k) p (omega arith), le-ltb (m + k) m (omega arith)) in
-    let first : laid flat (p + 1) (λ (k : ℕ). nought) w₁ ≡ laid flat m knot w =
-    ap (laid flat (p + 1) (λ (k : ℕ). nought)) e₁
-    ∙ laid-order flat (p + 1) (flat + (p + 1)) (m - p - 1) (λ (k : ℕ). nought) inner w (omega arith)
-    ∙ laid_join flat (p + 1) (m - p - 1) (λ (k : ℕ). nought) inner knot w low mid
-    ∙ ap (λ (k : ℕ). laid flat k knot w) a in
-    e₂
-    ∙ ap (laid (flat + m) (p + 1) (λ (k : ℕ). one)) first
-    ∙ laid_join flat m (p + 1) knot (λ (k : ℕ). one) knot w (λ k i. refl) high
-    ∙ ap (λ (k : ℕ). laid flat k knot w) b
-    ∙ laid_region flat (m + p + 1) knot w (omega arith)
-    ∙ ap (λ (k : ℕ). splice flat k (list_of (m + p + 1) knot) w) d
+-- Two ends are filled, p + 1 places each; the places between them stay.
+module _ (m p : ℕ) (flat front w back w' : List Float) (h : p < m) (room : length flat ≡ m + p + 1) (f : front ≡ replicate (length (take (p + 1) flat)) nought) (e : w ≡ front ++ drop (p + 1) flat)
+    (g : back ≡ replicate (length (part m (length w) w)) one) (e' : w' ≡ splice m (length w) back w) where
+  front-long : length front ≡ p + 1
+  front-long = ap length f ∙ length-replicate (length (take (p + 1) flat)) nought ∙ length-take-le (p + 1) flat (omega arith)
 
--- no inner knot
-pub bezier-laid : (p flat : ℕ) (w w₂ : List Float) → flat + (p + 1) + p + 1 ≤ length w
-    → w₂ ≡ laid (flat + (p + 1)) (p + 1) (λ (k : ℕ). one) (laid flat (p + 1) (λ (k : ℕ). nought) w)
-    → w₂ ≡ splice flat (flat + (p + 1) + p + 1) (bezier_knots p) w
+  long : length w ≡ m + p + 1
+  long = ap length e ∙ rw length-append (omega (arith, front-long, length-drop (p + 1) flat))
+
+  back-long : length back ≡ length w - m
+  back-long = ap length g ∙ length-replicate (length (part m (length w) w)) one ∙ length_part m (length w) w (omega arith)
+
+  whole : length w' ≡ m + p + 1
+  whole = ap length e' ∙ length-splice m (length w) back w (omega (arith, long)) (omega arith) back-long ∙ long
+
+  before : (k : ℕ) → k < m → at w' k ≡ at w k
+  before k l = ap (λ (x : List Float). at x k) e' ∙ get_or-before m (length w) back w (omega (arith, long)) (omega arith) back-long nan k l
+
+  knots : (k : ℕ) → k < m + p + 1 → at w' k ≡ flat_knot m p (λ j. at flat (p + 1 + j)) k
+  unfolding flat_knot
+  knots k l = ⊎_elim low (λ c. ⊎_elim high (mid c) (le-or-lt m k)) (le-or-lt k p)
+    where
+      low : k ≤ p → at w' k ≡ flat_knot m p (λ j. at flat (p + 1 + j)) k
+      low c =
+          before k (omega arith)
+          ∙ ap (λ (x : List Float). at x k) e
+          ∙ get_or-append front (drop (p + 1) flat) nan k (omega (arith, front-long))
+          ∙ ap (λ (x : List Float). at x k) f
+          ∙ get_or-replicate (length (take (p + 1) flat)) k nought nan (omega (arith, length-take-le (p + 1) flat (omega arith)))
+          ∙ rw (le-leb k p c)
+
+      mid : p < k → k < m → at w' k ≡ flat_knot m p (λ j. at flat (p + 1 + j)) k
+      mid c d =
+          before k d
+          ∙ ap (λ (x : List Float). at x k) e
+          ∙ get_or-append_right front (drop (p + 1) flat) (p + 1) k nan front-long (omega arith)
+          ∙ get_or-drop (p + 1) flat (k - (p + 1)) nan
+          ∙ rw (lt-leb k p c, lt-ltb k m d)
+
+      high : m ≤ k → at w' k ≡ flat_knot m p (λ j. at flat (p + 1 + j)) k
+      high c =
+          let z : m + (k - m) ≡ k = omega arith in
+          ap (at w') (sym z)
+          ∙ ap (λ (x : List Float). at x (m + (k - m))) e'
+          ∙ get_or_in m (length w) back w (omega (arith, long)) (omega arith) back-long nan (k - m) (omega (arith, long))
+          ∙ ap (λ (x : List Float). at x (k - m)) g
+          ∙ get_or-replicate (length (part m (length w) w)) (k - m) one nan (omega (arith, long, length_part m (length w) w (omega arith)))
+          ∙ rw (lt-leb k p (omega arith), le-ltb k m c)
+
+  pub ends-filled : w' ≡ clamped_knots m p (λ j. at flat (p + 1 + j))
+  unfolding clamped_knots flat_knot
+  ends-filled = list_by (m + p + 1) _ w' whole knots
+
+-- flat knots with the same inner knots
+clamped_same : (m p : ℕ) (f g : ℕ → Float) → ((j : ℕ) → j < m - p - 1 → f j ≡ g j) → clamped_knots m p f ≡ clamped_knots m p g
+unfolding clamped_knots
+clamped_same m p f g e = list_of-same (m + p + 1) _ _ (λ k h. ⊎_elim (λ l. rw (le-leb k p l)) (λ l. ⊎_elim (λ c. rw (le-ltb k m c)) (λ c. rw (e (k - (p + 1)) (omega arith))) (le-or-lt m k)) (le-or-lt k p))
+
+-- the inner knots stand between the ends
+pub clamped-by : (m p : ℕ) (f : ℕ → Float) (flat inner w w' : List Float) → p < m → length flat ≡ m + p + 1 → inner ≡ list_of (length (part (p + 1) m flat)) f → w ≡ splice (p + 1) m inner flat
+    → w' ≡ clamped_knots m p (λ j. at w (p + 1 + j)) → w' ≡ clamped_knots m p f
+clamped-by m p f flat inner w w' h room i e e' =
+    let some : length (part (p + 1) m flat) ≡ m - (p + 1) = length_part (p + 1) m flat (omega arith) in
+    let long : length inner ≡ m - (p + 1) = ap length i ∙ length-list_of _ f ∙ some in
+    e'
+    ∙ clamped_same m p _ f
+    (λ j l.
+    ap (λ (x : List Float). at x (p + 1 + j)) e
+    ∙ get_or_in (p + 1) m inner flat (omega arith) (omega arith) long nan j (omega arith)
+    ∙ ap (λ (x : List Float). at x j) i
+    ∙ list_of-at (length (part (p + 1) m flat)) f j nan (omega (arith, some)))
+
+-- a single piece has none
+pub bezier-by : (p : ℕ) (f : ℕ → Float) → clamped_knots (p + 1) p f ≡ bezier_knots p
 unfolding bezier_knots
-bezier-laid p flat w w₂ room e =
-    let z : p + 1 - p - 1 ≡ 0 = omega arith in
-    clamped-laid (p + 1) p flat (λ j. nought) w w w₂ (omega arith) room (sym (ap (λ (k : ℕ). laid (flat + (p + 1)) k (λ (j : ℕ). nought) w) z ∙ laid_none (flat + (p + 1)) _ w)) e
-
--- ---- averaged knots
-
-pub carried_none : (params : List Float) (p : ℕ) → carried params p 0 ≡ sum_below (p - 1) (λ k. at params (k + 1))
-unfolding carried
-carried_none params p = refl
-
-carried-more : (params : List Float) (p j : ℕ) → carried params p (j + 1) ≡ carried params p j ⊕ at params (j + p) ⊖ at params (j + 1)
-unfolding carried
-carried-more params p j = ap (carried params p) (add-one j)
-
--- a parameter is read in the buffer as it was before the knots behind it were laid
-param-at : (w work : List Float) (params n start j : ℕ) (f : ℕ → Float) (i : ℕ) → work ≡ laid start j f w → params + n ≤ start → i < n → at work (params + i) ≡ at (part params (params + n) w) i
-param-at w work params n start j f i e h l =
-    ap (λ (x : List Float). at x (params + i)) e
-    ∙ laid-below start j f w (params + i) nan (omega arith)
-    ∙ sym (get_d_part params (params + n) w i nan (omega arith))
-
--- One turn: the sum before inner knot j takes up a parameter and gives the knot, which is laid, and then lets a parameter go
-pub average-turn : (w work : List Float) (params n p start j : ℕ) (sum : Float) → params + n ≤ start → 1 ≤ p → j + p < n
-    → sum ≡ carried (part params (params + n) w) p j
-    → work ≡ laid start j (averaged_knot (part params (params + n) w) p) w
-    → let more = sum ⊕ at work (params + (j + p)) in
-    let next = set work (start + j) (more ⊘ double p) in
-    (more ⊖ at next (params + (j + 1)) ≡ carried (part params (params + n) w) p (j + 1)) × (next ≡ laid start (j + 1) (averaged_knot (part params (params + n) w) p) w)
-unfolding averaged_knot
-average-turn w work params n p start j sum h g l e d =
-    let u : List Float = part params (params + n) w in
-    let f : ℕ → Float = averaged_knot u p in
-    let up : at work (params + (j + p)) ≡ at u (j + p) = param-at w work params n start j f (j + p) d h l in
-    let put : set work (start + j) ((sum ⊕ at work (params + (j + p))) ⊘ double p) ≡ laid start (j + 1) f w = laid_next start j f w work _ d (rw (e, up)) in
-    (rw (param-at w _ params n start (j + 1) f (j + 1) put h (omega arith), up, e) (sym (carried-more u p j)), put)
-
--- as many poles as parameters, in the buffer
-pub averaged-laid : (w w₁ w₂ : List Float) (params n p flat : ℕ) → p < n → params + n ≤ flat → flat + n + p + 1 ≤ length w
-    → w₁ ≡ laid (flat + (p + 1)) (n - p - 1) (averaged_knot (part params (params + n) w) p) w
-    → w₂ ≡ laid (flat + n) (p + 1) (λ (k : ℕ). one) (laid flat (p + 1) (λ (k : ℕ). nought) w₁)
-    → w₂ ≡ splice flat (flat + n + p + 1) (averaged_knots (part params (params + n) w) p) w
-unfolding averaged_knots
-averaged-laid w w₁ w₂ params n p flat h b room e₁ e₂ =
-    let u : List Float = part params (params + n) w in
-    let long : n ≡ length u = omega (arith, length_part params (params + n) w (omega arith)) in
-    clamped-laid n p flat (averaged_knot u p) w w₁ w₂ h room e₁ e₂ ∙ ap (λ (m : ℕ). splice flat (flat + n + p + 1) (clamped_knots m p (averaged_knot u p)) w) long
+bezier-by p f = clamped_same (p + 1) p f _ (λ j h. absurd (omega arith))
 
 -- ---- spread knots
 
@@ -141,25 +141,6 @@ between_none params index h =
     let i : ℕ = whole_part index in
     let z : at params (i + 1) ≡ nan = get_or-eq_default params nan (omega arith) in
     rw (z, mul_nan, add_nan)
-
--- at the index of knot j
-pub between-spread : (params : List Float) (m p j : ℕ) → between_places params (double (j + 1) ⊗ (double (length params - 1) ⊘ double (m - p))) ≡ spread_knot params m p j
-unfolding between_places spread_knot
-between-spread params m p j = refl
-
--- knot j, read in the buffer once the knots before it are laid there
-pub spread-next : (w work : List Float) (params n m p start j : ℕ) (f : ℕ → Float) (knot : Float) → work ≡ laid start j f w → params + n ≤ start → params + n ≤ length w
-    → knot ≡ between_places (part params (params + n) work) (double (j + 1) ⊗ (double (n - 1) ⊘ double (m - p)))
-    → knot ≡ spread_knot (part params (params + n) w) m p j
-spread-next w work params n m p start j f knot e h l g =
-    let k : ℕ = params + n - params in
-    let same : part params (params + n) work ≡ part params (params + n) w =
-    ap (part params (params + n)) e ∙ part-before-laid start j f w params k nan (omega arith) (omega arith) in
-    let long : n ≡ length (part params (params + n) w) = omega (arith, length_part params (params + n) w l) in
-    g
-    ∙ ap (λ (x : List Float). between_places x (double (j + 1) ⊗ (double (n - 1) ⊘ double (m - p)))) same
-    ∙ ap (λ (x : ℕ). between_places (part params (params + n) w) (double (j + 1) ⊗ (double (x - 1) ⊘ double (m - p)))) long
-    ∙ between-spread (part params (params + n) w) m p j
 
 -- ---- flat knots of degree d that start with d + 1 times 0 and end with d + 1 times 1, each a double
 

@@ -1,21 +1,16 @@
 -- The lines of a ladder and of a grid: their points, and the parameters that depend on nothing else. Assumes nothing.
-use mathlib.Core.Path.{◌≡◌, ap, ◌∙◌}
-use mathlib.Core.Bool.{Bool, true, false, cond, not}
+use mathlib.Core.Path.{◌≡◌, ap}
 use mathlib.Core.List.{List}
-use mathlib.Core.Option.{Option, none, some}
-use Prim.Native.Nat.{ℕ, ◌+◌, ◌-◌, ◌*◌, ◌^◌, ◌<◌, ◌≤◌}
+use Prim.Native.Nat.{ℕ, ◌+◌, ◌-◌, ◌*◌, ◌<◌}
 use native.Mathlib.Omega.{arith}
-use lib.ListN.{length, take}
 use lib.Ieee.{Float}
-use borrow.Author.Tests.{not-true, not-false}
 use Rattle.places.proofs.LoopLaws.{each_cong}
-use Rattle.places.proofs.PlaceLaws.{list_of-same, row_inside}
+use Rattle.places.proofs.PlaceLaws.{list_of-same}
 use Rattle.geometry.specs.declared.Point.{Point}
 use Rattle.geometry.specs.Points.{point_at}
 use Rattle.knots.specs.declared.Metric.{Metric}
 use Rattle.knots.specs.Parameters.{chords, point_parameters, Lines, add_line, added_lines, shared_parameters}
 use Rattle.knots.specs.Lines.{line_of, lines_of}
-use Rattle.knots.specs.Calls.{HasLines, Found}
 
 -- ---- only the points below the count matter
 
@@ -49,19 +44,3 @@ rows_same v rows cols s = shared_same v rows cols _ _ (λ i j h k. let e : i * c
 
 pub columns-same : (v : Metric) (rows cols : ℕ) (s : List Float) → shared_parameters v cols rows (lines_of s 1 cols) ≡ shared_parameters v cols rows (λ j i. point_at s (i * cols + j))
 columns-same v rows cols s = shared_same v cols rows _ _ (λ j i h k. let e : j * 1 + cols * i ≡ i * cols + j = omega arith in ap (point_at s) e)
-
-module _ (rows cols : ℕ) (s : List Float) (r : 2 ≤ rows) (c : 2 ≤ cols) (l : 3 * (rows * cols) ≤ length s) where
-  pub rows_inside : rows ≤ 2 ^ 53 → HasLines s rows cols cols 1
-  rows_inside h = record { two = c; few = h; last = omega (arith, row_inside (rows - 1) rows cols (omega arith)) }
-
-  pub columns_in : cols ≤ 2 ^ 53 → HasLines s cols 1 rows cols
-  columns_in h = record { two = r; few = h; last = omega (arith, row_inside (rows - 1) rows cols (omega arith)) }
-
--- ---- what a spacing that answers has found
-
-module _ {o : Option (List Float)} {n m : ℕ} {out out' : List Float} {r : Bool} (f : Found o n m out out' r) where
-  pub found_none : not r ≡ true → o ≡ none
-  found_none e = f.answer ∙ ap (λ (b : Bool). cond b (some (take n out')) none) (not-true r e)
-
-  pub found_some : not r ≡ false → o ≡ some (take n out')
-  found_some e = f.answer ∙ ap (λ (b : Bool). cond b (some (take n out')) none) (not-false r e)

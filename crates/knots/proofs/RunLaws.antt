@@ -7,34 +7,26 @@ use Prim.Native.Nat.{ℕ, zero, suc, ◌+◌, ◌-◌, ◌<◌, ◌≤◌}
 use native.Mathlib.Nat.{zero-add, eq-or-lt_of_le, not-suc-le-zero}
 use native.Mathlib.Numerals.{add-one}
 use native.Mathlib.Omega.{arith}
-use borrow.Author.Tests.{lt-ltb, le-ltb, not-true, not-false}
-use lib.ListN.{length, take, replicate}
+use borrow.Author.Tests.{lt-ltb, le-ltb}
+use lib.ListN.{length, get_or, set, take, replicate, length-set}
+use lib.Seq.{get_or-set_same, set-set}
 use lib.Seq.{take-suc, take-length}
-use lib.Ieee.{Float, nan, eq, ne}
-use Rattle.places.specs.Places.{joined, count_below}
-use Rattle.places.proofs.PlaceLaws.{le-or-lt}
+use lib.Ieee.{Float, nan, eq}
+use Rattle.places.specs.Places.{laid, joined, count_below}
+use Rattle.places.proofs.PlaceLaws.{le-or-lt, laid_none, length-laid, laid0-at, laid0-more, laid0-next}
 use Rattle.geometry.specs.Doubles.{at}
 use Rattle.knots.specs.Knots.{equal_from, run_length, run_start, distinct_knots, knot_at, multiplicity_at}
 
 -- one more place that equals x, and one that does not
-equal-more : (flat : List Float) (x : Float) (i c : ℕ) → 0 < c → ne x (at flat i) ≡ false → equal_from flat x i c ≡ 1 + equal_from flat x (i + 1) (c - 1)
-unfolding equal_from ne
+equal-more : (flat : List Float) (x : Float) (i c : ℕ) → 0 < c → eq x (at flat i) ≡ true → equal_from flat x i c ≡ 1 + equal_from flat x (i + 1) (c - 1)
+unfolding equal_from
 equal-more flat x i zero h e = absurd (not-suc-le-zero h)
-equal-more flat x i (suc c) h e = let d : suc c - 1 ≡ c = omega arith in rw (not-false (eq x (at flat i)) e, d)
+equal-more flat x i (suc c) h e = let d : suc c - 1 ≡ c = omega arith in rw (e, d)
 
-pub equal_stop : (flat : List Float) (x : Float) (i c : ℕ) → ne x (at flat i) ≡ true → equal_from flat x i c ≡ 0
-unfolding equal_from ne
+equal_stop : (flat : List Float) (x : Float) (i c : ℕ) → eq x (at flat i) ≡ false → equal_from flat x i c ≡ 0
+unfolding equal_from
 equal_stop flat x i zero e = refl
-equal_stop flat x i (suc c) e = rw (not-true (eq x (at flat i)) e)
-
--- a turn of the loop that counts a run
-pub run-turn : (flat : List Float) (x : Float) (i r m l : ℕ) → r < m - i → ne x (at flat (i + r)) ≡ false → l ≡ r + equal_from flat x (i + r) (m - i - r)
-    → l ≡ r + 1 + equal_from flat x (i + (r + 1)) (m - i - (r + 1))
-run-turn flat x i r m l h e f =
-    let e1 : i + r + 1 ≡ i + (r + 1) = omega arith in
-    let e2 : m - i - r - 1 ≡ m - i - (r + 1) = omega arith in
-    let g = rw (e1, e2) at (equal-more flat x (i + r) (m - i - r) (omega arith) e) in
-    omega arith
+equal_stop flat x i (suc c) e = rw e
 
 equal-most : (flat : List Float) (x : Float) (i c : ℕ) → equal_from flat x i c ≤ c
 unfolding equal_from
@@ -90,6 +82,102 @@ distinct_is flat k e =
     (omega (arith, start-far flat 0 k, ap (run_start flat) (zero-add k)))
     (λ j h. lt-ltb _ (length flat) (omega (arith, start-rises flat j k (omega arith))))
     (λ j h. le-ltb _ (length flat) (omega (arith, start-rises flat k j h)))
+
+-- ---- the runs, taken up value by value
+
+-- k runs are listed, and the next one starts at place j
+pub record Closed (flat knots₀ knots : List Float) (mults₀ mults : List ℕ) (j k : ℕ) : Type 0 where
+  pub here : run_start flat k ≡ j
+  pub knots_are : knots ≡ laid 0 k (knot_at flat) knots₀
+  pub mults_are : mults ≡ laid 0 k (multiplicity_at flat) mults₀
+
+-- the runs up to run i are listed, run i with as many of its places as stand before place j, where it may go on
+pub record Open (flat knots₀ knots : List Float) (mults₀ mults : List ℕ) (j i : ℕ) : Type 0 where
+  pub before : run_start flat i < j
+  pub counted : multiplicity_at flat i ≡ (j - run_start flat i) + equal_from flat (knot_at flat i) j (length flat - j)
+  pub knots_are : knots ≡ laid 0 (i + 1) (knot_at flat) knots₀
+  pub mults_are : mults ≡ set (laid 0 i (multiplicity_at flat) mults₀) i (j - run_start flat i)
+
+-- the first j values are taken up, in k runs
+abbrev pub Taken : List Float → List Float → List Float → List ℕ → List ℕ → ℕ → ℕ → Type 0
+Taken flat knots₀ knots mults₀ mults j k = ((k ≡ 0) × Closed flat knots₀ knots mults₀ mults j 0) ⊎ ((1 ≤ k) × Open flat knots₀ knots mults₀ mults j (k - 1))
+
+module _ (flat knots₀ knots : List Float) (mults₀ mults : List ℕ) (j : ℕ) where
+  -- the next run begins
+  begins : (k : ℕ) → Closed flat knots₀ knots mults₀ mults j k → j < length flat → Taken flat knots₀ (set knots k (at flat j)) mults₀ (set mults k 1) (j + 1) (k + 1)
+  unfolding run_length multiplicity_at knot_at
+  begins k c h =
+      let z : k + 1 - 1 ≡ k = omega arith in
+      let o : j + 1 - j ≡ 1 = omega arith in
+      let d : length flat - (j + 1) ≡ length flat - j - 1 = omega arith in
+      inr (
+        omega arith,
+        rw z (record {
+          before = rw c.here (omega arith);
+          counted = rw (c.here, o, d);
+          knots_are = laid0-next k (knot_at flat) knots₀ knots (at flat j) c.knots_are (rw c.here);
+          mults_are = rw (c.here, o, c.mults_are);
+        }),
+      )
+
+  module _ (i : ℕ) (o : Open flat knots₀ knots mults₀ mults j i) where
+    -- the last knot listed is that of the run
+    last : i < length knots → at knots i ≡ knot_at flat i
+    last h =
+        ap (λ (l : List Float). at l i) o.knots_are
+        ∙ laid0-at (i + 1) (knot_at flat) knots₀ i nan (omega arith) (omega (arith, ap length o.knots_are, length-laid 0 (i + 1) (knot_at flat) knots₀))
+
+    -- the run goes on
+    goes_on : i < length knots → i < length mults → j < length flat → eq (at knots i) (at flat j) ≡ true → Open flat knots₀ knots mults₀ (set mults i (get_or mults i 0 + 1)) (j + 1) i
+    goes_on h m l e =
+        let z : j - run_start flat i + 1 ≡ j + 1 - run_start flat i = omega (arith, o.before) in
+        let d : length flat - j - 1 ≡ length flat - (j + 1) = omega arith in
+        let more = rw d at (equal-more flat (knot_at flat i) j (length flat - j) (omega arith) (rw (last h) at e)) in
+        let value : get_or mults i 0 ≡ j - run_start flat i =
+        ap (λ (l : List ℕ). get_or l i 0) o.mults_are
+        ∙ get_or-set_same (laid 0 i (multiplicity_at flat) mults₀) i _ 0 (omega (arith, ap length o.mults_are, length-set (laid 0 i (multiplicity_at flat) mults₀) i (j - run_start flat i))) in
+        record {
+          before = omega (arith, o.before);
+          counted = omega (arith, o.counted, more, z);
+          knots_are = o.knots_are;
+          mults_are = rw (value, o.mults_are, set-set, z);
+        }
+
+    -- or it ends
+    ends : equal_from flat (knot_at flat i) j (length flat - j) ≡ 0 → Closed flat knots₀ knots mults₀ mults j (i + 1)
+    unfolding multiplicity_at
+    ends e =
+        let m : multiplicity_at flat i ≡ j - run_start flat i = omega (arith, o.counted) in
+        record {
+          here = start-more flat i ∙ omega (arith, m, o.before);
+          knots_are = o.knots_are;
+          mults_are = o.mults_are ∙ rw (← m) (sym (laid0-more i (multiplicity_at flat) mults₀));
+        }
+
+    ends_here : i < length knots → eq (at knots i) (at flat j) ≡ false → Closed flat knots₀ knots mults₀ mults j (i + 1)
+    ends_here h e = ends (equal_stop flat (knot_at flat i) j (length flat - j) (rw (last h) at e))
+
+    ends_last : length flat ≤ j → Closed flat knots₀ knots mults₀ mults j (i + 1)
+    unfolding equal_from
+    ends_last h = let z : length flat - j ≡ 0 = omega arith in ends (rw z)
+
+  module _ (k : ℕ) (t : Taken flat knots₀ knots mults₀ mults j k) where
+    -- one more value: it is in the run, or begins the next
+    pub taken_on : 0 < k → k ≤ length knots → k ≤ length mults → j < length flat → eq (at knots (k - 1)) (at flat j) ≡ true
+        → Taken flat knots₀ knots mults₀ (set mults (k - 1) (get_or mults (k - 1) 0 + 1)) (j + 1) k
+    taken_on p h m l e = ⊎_elim (λ (z, c). absurd (omega arith)) (λ (q, o). inr (q, goes_on (k - 1) o (omega arith) (omega arith) l e)) t
+
+    pub taken_next : k ≤ length knots → j < length flat → (0 < k → eq (at knots (k - 1)) (at flat j) ≡ false) → Taken flat knots₀ (set knots k (at flat j)) mults₀ (set mults k 1) (j + 1) (k + 1)
+    taken_next h l e = begins k (⊎_elim (λ (z, c). rw z c) (λ (q, o). let n : k - 1 + 1 ≡ k = omega arith in rw n at (ends_here (k - 1) o (omega arith) (e q))) t) l
+
+    -- no value is left
+    pub taken_all : length flat ≤ j → Closed flat knots₀ knots mults₀ mults j k
+    taken_all h = ⊎_elim (λ (z, c). rw z c) (λ (q, o). let n : k - 1 + 1 ≡ k = omega arith in rw n at (ends_last (k - 1) o h)) t
+
+-- no value is taken up
+pub taken_none : (flat knots : List Float) (mults : List ℕ) → Taken flat knots knots mults mults 0 0
+unfolding run_start
+taken_none flat knots mults = inl (refl, record { here = refl; knots_are = sym (laid_none 0 _ knots); mults_are = sym (laid_none 0 _ mults) })
 
 -- ---- the runs, one after the other, are the list, where the values of a run are the same
 

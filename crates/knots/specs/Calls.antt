@@ -1,62 +1,45 @@
 -- What the functions ask of the lists lent to them, and what they leave in them. Definitions only.
-use Rattle.std.specs.Prelude.{◌≡◌, Bool, cond, List, ℕ, ◌+◌, ◌-◌, ◌*◌, ◌^◌, ◌≤◌, ◌<◌, length, take, drop, Float}
+use Rattle.std.specs.Prelude.{◌≡◌, List, ℕ, ◌+◌, ◌-◌, ◌≤◌, ◌<◌, length, take, drop, Result, MatchResult, Float}
 use Rattle.std.proofs.Math.Option.{Option, none, some}
-use Rattle.std.specs.Float.Ieee.{le}
-use Rattle.places.specs.Places.{laid, some_below}
+use Rattle.places.specs.Places.{laid}
 use Rattle.geometry.specs.declared.Point.{Point}
 use Rattle.geometry.specs.Doubles.{at, sum_below}
+use Rattle.bspline.specs.declared.Refusal.{Refusal}
+use Rattle.bspline.specs.declared.Refusal.TheVariants.{ConfusedPoints}
 use Rattle.knots.specs.declared.Metric.{Metric}
 use Rattle.knots.specs.declared.parameters.LineChords.{LineChords}
 use Rattle.knots.specs.declared.parameters.LineSums.{LineSums}
-use Rattle.knots.specs.Parameters.{confusion, chords, step_sums, Lines}
+use Rattle.knots.specs.Parameters.{chords, step_sums, confused}
 use Rattle.knots.specs.Knots.{distinct_knots, knot_at, multiplicity_at}
 
 -- ---- parameters
-
--- a line of n points within a list of points
-pub record HasLine (points : List Float) (start stride n : ℕ) : Type 0 where
-  pub two : 2 ≤ n
-  pub last : 3 * (start + stride * (n - 1)) + 3 ≤ length points
-
--- such lines, line r from point r * pitch on, few enough to be counted in doubles
-pub record HasLines (points : List Float) (lines pitch n stride : ℕ) : Type 0 where
-  pub two : 2 ≤ n
-  pub few : lines ≤ 2 ^ 53
-  pub last : 3 * ((lines - 1) * pitch + stride * (n - 1)) + 3 ≤ length points
 
 -- What the chords of a line of n points come to: their length, and whether two neighbours are confused
 unfoldable pub line_chords : Float → ℕ → (ℕ → Point) → LineChords
 line_chords f n point =
     let ds = chords f n point in
-    record { length = sum_below (n - 1) (at ds); confused = some_below (n - 1) (λ k. le (at ds k) confusion) }
+    record { length = sum_below (n - 1) (at ds); confused = confused n ds }
 
--- What a line of n points is summed up to, beside its running sums: the length of its chords, its last running sum, and whether two neighbours are confused
+-- What a line of n points is summed up to, beside its running sums: its chords, and its last running sum
 unfoldable pub line_sums : Metric → ℕ → (ℕ → Point) → LineSums
-line_sums v n point =
-    let ds = chords v.factor n point in
-    record { length = sum_below (n - 1) (at ds); total = at (step_sums v.spacing n ds) (n - 1); confused = some_below (n - 1) (λ k. le (at ds k) confusion) }
+line_sums v n point = record { chords = line_chords v.factor n point; total = at (step_sums v.spacing n (chords v.factor n point)) (n - 1) }
 
--- The n parameters that were looked for: r says whether there are any, and then they stand in the first n places. Places from m on stay.
-pub record Found (parameters : Option (List Float)) (n m : ℕ) (out out' : List Float) (r : Bool) : Type 0 where
-  pub answer : parameters ≡ cond r (some (take n out')) none
+-- The n parameters that were looked for: where r is Ok, they stand in the first n places; where it is an error, there are none, and points are confused.
+-- Places from m on stay.
+pub record Found (parameters : Option (List Float)) (n m : ℕ) (out out' : List Float) (r : Result (Unit {0}) Refusal) : Type 0 where
+  pub answer : MatchResult r (λ _. parameters ≡ some (take n out')) (λ e. (parameters ≡ none) × (e ≡ ConfusedPoints))
   pub rest : drop m out' ≡ drop m out
-
--- lines that were added up: their sums stand in the first n places, and the next n are what one line was worked out in
-pub record Added (lines : Lines) (n : ℕ) (out out' : List Float) (r : ℕ) : Type 0 where
-  pub added : record { used = r; sums = take n out' } ≡ lines
-  pub rest : drop (n + n) out' ≡ drop (n + n) out
 
 -- ---- knots
 
--- Regions of one list: n parameters from place `params` on, and behind them m + p + 1 flat knots from place `flat` on
-pub record KnotRegions (work : List Float) (params n m p flat : ℕ) : Type 0 where
+-- m + p + 1 flat knots of degree p, from n parameters
+pub record KnotRoom (n m p size : ℕ) : Type 0 where
   pub low : 1 ≤ p
   pub high : p ≤ 25
   pub few : n ≤ 1024
   pub more : p < m
   pub most : m ≤ n
-  pub behind : params + n ≤ flat
-  pub room : flat + m + p + 1 ≤ length work
+  pub room : size ≡ m + p + 1
 
 -- ---- runs
 

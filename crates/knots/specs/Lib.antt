@@ -2,4 +2,5 @@
 pub mod Parameters
 pub mod Knots
 pub mod Lines
+pub mod OnLines
 pub mod Calls

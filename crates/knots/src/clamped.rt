@@ -1,62 +1,63 @@
 // Clamped flat knots from parameters: averaged (`averaged_knots`), spread along the parameters (`approximation_knots`), and those of a single piece.
-// The parameters and the knots are regions of one slice, the knots behind the parameters.
-ghost use Rattle.std.specs.Prelude.{◌≡◌, ℕ, ◌+◌, ◌-◌, ◌≤◌, length};
-ghost use Rattle.places.specs.Places.{laid};
-ghost use Rattle.places.specs.Regions.{part, splice};
-ghost use Rattle.geometry.specs.Doubles.{nought, one, at, sum_below};
-ghost use Rattle.knots.specs.Knots.{averaged_knot, averaged_knots, between_places, spread_knot, approximation_knots, bezier_knots};
-ghost use Rattle.knots.specs.Calls.{KnotRegions};
+ghost use Rattle.std.specs.Prelude.{◌≡◌, ℕ, ◌+◌, ◌-◌, ◌*◌, ◌≤◌, ◌<◌, length};
+ghost use Rattle.places.specs.Places.{list_of};
+ghost use Rattle.geometry.specs.Doubles.{at, sum_below};
+ghost use Rattle.knots.specs.Knots.{clamped_knots, averaged_knot, averaged_knots, between_places, spread_knot, approximation_knots, bezier_knots};
+ghost use Rattle.knots.specs.Calls.{KnotRoom};
 
 // The first and the last degree + 1 flat knots, 0 and 1; those between stay.
-fn clamp_ends(work: &mut [f64], poles: usize, degree: usize, flat: usize)
-    requires { flat + poles + degree + 1 ≤ length work.old }
-    ensures { work.new ≡ laid (flat + poles) (degree + 1) (λ (k : ℕ). one) (laid flat (degree + 1) (λ (k : ℕ). nought) work.old) }
+fn clamp_ends(poles: usize, degree: usize, flat: &mut [f64])
+    requires apart { degree < poles }
+    requires room { length flat.old ≡ poles + degree + 1 }
+    ensures { flat.new ≡ clamped_knots poles degree (λ (j : ℕ). at flat.old (degree + 1 + j)) }
 {
-    places::fill(work, flat, degree + 1, 0.0);
-    places::fill(work, flat + poles, degree + 1, 1.0);
+    flat[..degree + 1].fill(0.0);
+    flat[poles..].fill(1.0);
 }
 
 // params[1] + .. + params[degree - 1], from 0.
+#[tactic(auto, using(crate::proofs::ParameterLaws::below_none, crate::proofs::ParameterLaws::below_more, places::proofs::RegionLaws::get_d_part))]
 fn leading_sum(params: &[f64], degree: usize) -> f64
-    requires { (1 ≤ degree) × (degree ≤ length params.now) }
+    requires some { 1 ≤ degree }
+    requires within { degree ≤ length params.now }
     ensures { result ≡ sum_below (degree - 1) (λ (k : ℕ). at params.now (k + 1)) }
 {
-    let count = degree - 1;
     let mut sum = 0.0;
-    for k in 0..count {
-        sum += params[k + 1];
+    for x in &params[1..degree] {
+        sum += *x;
     }
     sum
 }
 
 // The inner averaged knots, by a running sum of `degree` parameters.
-fn average(work: &mut [f64], params: usize, n: usize, degree: usize, flat: usize)
-    requires { KnotRegions work.old params n n degree flat }
-    ensures { work.new ≡ laid (flat + (degree + 1)) (n - degree - 1) (averaged_knot (part params (params + n) work.old) degree) work.old }
+#[tactic(auto, unfolding(crate::specs::Knots::averaged_knot, crate::specs::Knots::carried), using(crate::proofs::ParameterLaws::list_by))]
+fn average(params: &[f64], degree: usize, inner: &mut [f64])
+    requires { KnotRoom (length params.now) (length params.now) degree (length inner.old + 2 * degree + 2) }
+    ensures { inner.new ≡ list_of (length inner.old) (averaged_knot params.now degree) }
 {
-    let end = params + n;
-    let start = flat + (degree + 1);
-    let count = n - degree - 1;
-    let mut sum = leading_sum(&work[params..end], degree);
-    for j in 0..count {
-        sum += work[params + (j + degree)];
-        work[start + j] = sum / degree as f64;
-        sum -= work[params + (j + 1)];
+    let mut sum = leading_sum(params, degree);
+    for (j, knot) in inner.iter_mut().enumerate() {
+        sum += params[j + degree];
+        *knot = sum / degree as f64;
+        sum -= params[j + 1];
     }
 }
 
-// The averaged knots of the n parameters from place `params` on, from place `flat` on.
-pub fn averaged_knots(work: &mut [f64], params: usize, n: usize, degree: usize, flat: usize)
-    requires { KnotRegions work.old params n n degree flat }
-    ensures { work.new ≡ splice flat (flat + n + degree + 1) (averaged_knots (part params (params + n) work.old) degree) work.old }
+// As many flat knots as parameters and degree + 1 more, the inner ones averaged.
+pub fn averaged_knots(params: &[f64], degree: usize, flat: &mut [f64])
+    requires { KnotRoom (length params.now) (length params.now) degree (length flat.old) }
+    ensures { flat.new ≡ averaged_knots params.now degree }
 {
-    average(work, params, n, degree, flat);
-    clamp_ends(work, n, degree, flat);
+    let n = params.len();
+    average(params, degree, &mut flat[degree + 1..n]);
+    clamp_ends(n, degree, flat);
 }
 
 // The value at a fractional index, between the two around it; NaN where there are no two.
+#[tactic(auto, unfolding(crate::specs::Knots::between_places), using(crate::proofs::KnotLaws::between_none))]
 fn between(params: &[f64], index: f64) -> f64
-    requires { (1 ≤ length params.now) × (length params.now ≤ 1024) }
+    requires some { 1 ≤ length params.now }
+    requires few { length params.now ≤ 1024 }
     ensures { result ≡ between_places params.now index }
 {
     let i = geometry::doubles::whole_part(index);
@@ -68,40 +69,30 @@ fn between(params: &[f64], index: f64) -> f64
 }
 
 // The inner knots, spread along the parameters.
-fn spread(work: &mut [f64], params: usize, n: usize, poles: usize, degree: usize, flat: usize)
-    requires { KnotRegions work.old params n poles degree flat }
-    ensures { work.new ≡ laid (flat + (degree + 1)) (poles - degree - 1) (spread_knot (part params (params + n) work.old) poles degree) work.old }
+#[tactic(auto, unfolding(crate::specs::Knots::spread_knot), using(crate::proofs::ParameterLaws::list_by))]
+fn spread(params: &[f64], poles: usize, degree: usize, inner: &mut [f64])
+    requires { KnotRoom (length params.now) poles degree (length inner.old + 2 * degree + 2) }
+    ensures { inner.new ≡ list_of (length inner.old) (spread_knot params.now poles degree) }
 {
-    let end = params + n;
-    let start = flat + (degree + 1);
-    let count = poles - degree - 1;
-    let step = (n - 1) as f64 / (poles - degree) as f64;
-    for j in 0..count {
-        let knot = between(&work[params..end], (j + 1) as f64 * step);
-        work[start + j] = knot;
+    let step = (params.len() - 1) as f64 / (poles - degree) as f64;
+    for (j, knot) in inner.iter_mut().enumerate() {
+        *knot = between(params, (j + 1) as f64 * step);
     }
 }
 
-// The knots of `poles` poles, spread along the n parameters from place `params` on, from place `flat` on.
-pub fn approximation_knots(
-    work: &mut [f64],
-    params: usize,
-    n: usize,
-    poles: usize,
-    degree: usize,
-    flat: usize,
-)
-    requires { KnotRegions work.old params n poles degree flat }
-    ensures { work.new ≡ splice flat (flat + poles + degree + 1) (approximation_knots (part params (params + n) work.old) poles degree) work.old }
+// The flat knots of `poles` poles, the inner ones spread along the parameters.
+pub fn approximation_knots(params: &[f64], poles: usize, degree: usize, flat: &mut [f64])
+    requires { KnotRoom (length params.now) poles degree (length flat.old) }
+    ensures { flat.new ≡ approximation_knots params.now poles degree }
 {
-    spread(work, params, n, poles, degree, flat);
-    clamp_ends(work, poles, degree, flat);
+    spread(params, poles, degree, &mut flat[degree + 1..poles]);
+    clamp_ends(poles, degree, flat);
 }
 
-// The knots of a single Bézier piece, from place `flat` on.
-pub fn bezier_knots(work: &mut [f64], degree: usize, flat: usize)
-    requires { flat + (degree + 1) + degree + 1 ≤ length work.old }
-    ensures { work.new ≡ splice flat (flat + (degree + 1) + degree + 1) (bezier_knots degree) work.old }
+// The flat knots of a single Bézier piece.
+pub fn bezier_knots(degree: usize, flat: &mut [f64])
+    requires { length flat.old ≡ 2 * degree + 2 }
+    ensures { flat.new ≡ bezier_knots degree }
 {
-    clamp_ends(work, degree + 1, degree, flat);
+    clamp_ends(degree + 1, degree, flat);
 }

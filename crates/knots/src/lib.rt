@@ -2,6 +2,7 @@
 #![tactic(auto)]
 
 pub mod clamped;
+pub mod lines;
 pub mod parameters;
 pub mod runs;
 
@@ -9,33 +10,40 @@ ghost use Rattle.std.specs.Prelude.{◌≡◌};
 ghost use Rattle.knots.specs.Parameters.{spacing_of, metric_of};
 
 // How a point gets its parameter: by chord lengths, or by their square roots.
-#[derive(Clone, Copy)]
+#[derive(Clone, Copy, Debug, PartialEq, Eq)]
 pub enum Spacing {
     Chordal,
     Centripetal,
 }
 
 // How a call measures: the spacing, and the lightness factor of its distances.
-#[derive(Clone, Copy)]
+#[derive(Clone, Copy, Debug, PartialEq)]
 pub struct Metric {
     pub spacing: Spacing,
     pub factor: f64,
 }
 
 // The spacing of a number: 0 is chordal, any other centripetal.
-pub fn spacing_of(number: usize) -> Spacing
-    ensures { result ≡ spacing_of number }
-{
-    if number == 0 {
-        return Spacing::Chordal;
+impl From<usize> for Spacing {
+    ghost from_gives = { λ number s. s ≡ spacing_of number };
+
+    fn from(number: usize) -> Self {
+        if number == 0 {
+            Spacing::Chordal
+        } else {
+            Spacing::Centripetal
+        }
     }
-    Spacing::Centripetal
 }
 
-// The spacing of a number, with a lightness factor.
-pub fn metric_of(number: usize, factor: f64) -> Metric
-    ensures { result ≡ metric_of number factor }
-{
-    let spacing = spacing_of(number);
-    Metric { spacing, factor }
+impl Metric {
+    // The spacing of a number, with a lightness factor.
+    pub fn new(number: usize, factor: f64) -> Self
+        ensures { result ≡ metric_of number factor }
+    {
+        Metric {
+            spacing: Spacing::from(number),
+            factor,
+        }
+    }
 }

@@ -14,6 +14,8 @@ use checks::ladder::check_ladder;
 use checks::{Call, Room};
 use fitting::{Fit, Job};
 use knots::Metric;
+use knots::lines::Line;
+use knots::parameters::point_parameters;
 use tables::{Data, Table};
 
 // The regions of n points of a degree, and the lightness factor.
@@ -109,9 +111,13 @@ fn fit_passed(
         (lent poles.new flat.new knots.new mults.new work.new index.new) result }
 {
     let n = points.len() / 3;
-    if !knots::parameters::point_parameters(points, 0, 1, n, metric, work) {
-        return Err(Refusal::ConfusedPoints);
-    }
+    let line = Line {
+        points,
+        start: 0,
+        stride: 1,
+        count: n,
+    };
+    point_parameters(line, metric, work)?;
     let job = ladder_job(n, degree, metric.factor);
     hand_made(points, job, call, poles, flat, knots, mults, work, index)
 }

@@ -15,12 +15,14 @@ ghost use Rattle.lu.specs.BandLu.{factor_band, substitute_band};
 ghost use Rattle.bands.specs.Shapes.{Solvable};
 ghost use Rattle.knots.specs.Parameters.{point_parameters, shared_parameters};
 ghost use Rattle.knots.specs.Knots.{averaged_knots, approximation_knots};
-ghost use Rattle.knots.specs.Lines.{line_of, lines_of};
-ghost use Rattle.knots.specs.Calls.{HasLine, HasLines, Found, KnotRegions, HasRoom, Compressed};
+ghost use Rattle.knots.specs.Lines.{line_of, lines_of, HasLine, HasLines};
+ghost use Rattle.knots.specs.Calls.{HasRoom, Compressed};
 ghost use Rattle.pieces.specs.Metrics.{metric_of};
+ghost use Rattle.pieces.specs.Lent.{Found, KnotRegions};
 
 pub mod fits;
 
+use knots::lines::{Line, Lines};
 use knots::{Metric, Spacing};
 
 #[unsafe(no_mangle)]
@@ -88,7 +90,13 @@ pub extern "C" fn pieces_point_parameters(
     requires { HasLine points.now start stride n × (n ≤ length out.old) }
     ensures { Found (point_parameters (metric_of centripetal) n (line_of points.now start stride)) n n out.old out.new result }
 {
-    knots::parameters::point_parameters(points, start, stride, n, metric(centripetal), out)
+    let line = Line {
+        points,
+        start,
+        stride,
+        count: n,
+    };
+    knots::parameters::point_parameters(line, metric(centripetal), out).is_ok()
 }
 
 #[unsafe(no_mangle)]
@@ -104,7 +112,14 @@ pub extern "C" fn pieces_shared_parameters(
     requires { HasLines points.now lines pitch n stride × (n + n ≤ length out.old) }
     ensures { Found (shared_parameters (metric_of centripetal) lines n (lines_of points.now pitch stride)) n (n + n) out.old out.new result }
 {
-    knots::parameters::shared_parameters(points, lines, pitch, n, stride, metric(centripetal), out)
+    let lines = Lines {
+        points,
+        lines,
+        pitch,
+        count: n,
+        stride,
+    };
+    knots::parameters::shared_parameters(lines, metric(centripetal), out).is_ok()
 }
 
 #[unsafe(no_mangle)]
@@ -118,7 +133,9 @@ pub extern "C" fn pieces_averaged_knots(
     requires { KnotRegions work.old params n n degree flat }
     ensures { work.new ≡ splice flat (flat + n + degree + 1) (averaged_knots (part params (params + n) work.old) degree) work.old }
 {
-    knots::clamped::averaged_knots(work, params, n, degree, flat);
+    let (head, tail) = work.split_at_mut(flat);
+    let params = &head[params..params + n];
+    knots::clamped::averaged_knots(params, degree, &mut tail[..n + degree + 1]);
 }
 
 #[unsafe(no_mangle)]
@@ -133,7 +150,9 @@ pub extern "C" fn pieces_approximation_knots(
     requires { KnotRegions work.old params n poles degree flat }
     ensures { work.new ≡ splice flat (flat + poles + degree + 1) (approximation_knots (part params (params + n) work.old) poles degree) work.old }
 {
-    knots::clamped::approximation_knots(work, params, n, poles, degree, flat);
+    let (head, tail) = work.split_at_mut(flat);
+    let params = &head[params..params + n];
+    knots::clamped::approximation_knots(params, poles, degree, &mut tail[..poles + degree + 1]);
 }
 
 #[unsafe(no_mangle)]

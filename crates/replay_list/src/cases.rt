@@ -76,7 +76,7 @@ pub fn case_at(words: &[u64], start: usize) -> Found
     Found::Here(Case {
         call: call_of(entry, words[start + 3], words[start + 4]),
         degree: words[start + 1] as usize,
-        spacing: knots::spacing_of(words[start + 2] as usize),
+        spacing: Spacing::from(words[start + 2] as usize),
         count,
         given,
         shorter,

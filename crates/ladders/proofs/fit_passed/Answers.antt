@@ -1,5 +1,4 @@
 -- The parameters stand in the first places of the work, and what the call makes of them is handed out; or there are none, and nothing is. Assumes nothing.
-use mathlib.Core.Bool.{not}
 use mathlib.Core.Path.{◌≡◌, refl, ◌∙◌, ap, sym}
 use Prim.Native.Nat.{◌/◌}
 use native.Mathlib.Omega.{arith}
@@ -8,17 +7,17 @@ use Rattle.bspline.specs.declared.Refusal.TheVariants.{ConfusedPoints}
 use Rattle.ladders.specs.Ladders.{ladder_fit}
 use Rattle.making.specs.Results.{fit_by}
 use Rattle.checks.proofs.CheckLaws.{count_under}
-use Rattle.knots.proofs.LineLaws.{found_none, found_some}
 use Rattle.ladders.proofs.RunLaws.{run-refused, run-same, passed_none, passed-some, has-ladder_job, direction_is}
-use borrow.Author.Rules.{rules}
+use Rattle.std.proofs.Common.{rules, Err}
 use Rattle.ladders.proofs.fit_passed.Goals as goal
 
-pub returns-then-not-point_parameters : goal.returns-then-not-point_parameters
-returns-then-not-point_parameters c =
+pub returns-in_err-point_parameters : goal.returns-in_err-point_parameters
+returns-in_err-point_parameters c =
     let a = c.args in
-    let q = c.point_parameters in
-    run-refused a.degree (ladder_fit a.metric a.points.now a.degree (fit_by a.call)) ConfusedPoints
-    (passed_none a.metric a.points.now a.degree (fit_by a.call) (found_none q.ensures (ap not c.if-not-point_parameters.true))) _ _ _ _
+    let q = c.in_err-point_parameters.ensures.answer in
+    let f : c.from_residual.result ≡ Err c.in_err-point_parameters.field-0.0 = search rules in
+    rw (f, q.1)
+    (run-refused a.degree (ladder_fit a.metric a.points.now a.degree (fit_by a.call)) ConfusedPoints (passed_none a.metric a.points.now a.degree (fit_by a.call) q.0) _ _ _ _)
 
 pub hand_made-requires : goal.hand_made-requires
 hand_made-requires c =
@@ -41,10 +40,9 @@ hand_made-requires c =
 pub returns : goal.returns
 returns c =
     let a = c.args in
-    let q = c.point_parameters in
     let j = c.ladder_job-job in
     let n = length a.points.now / 3 in
-    let w = q.new.out in
+    let w = c.point_parameters.new.out in
     run-same a.degree (ladder_fit a.metric a.points.now a.degree (fit_by a.call))
-    (passed-some a.metric a.points.now a.degree (fit_by a.call) (take n w) (found_some q.ensures (ap not c.if-not-point_parameters.false)) ∙ sym (ap (fit_by a.call) (direction_is a.metric.factor n a.degree a.points.now w a.index.now)))
+    (passed-some a.metric a.points.now a.degree (fit_by a.call) (take n w) c.in_ok-point_parameters.ensures.answer ∙ sym (ap (fit_by a.call) (direction_is a.metric.factor n a.degree a.points.now w a.index.now)))
     (rw j.ensures at c.hand_made.ensures)

@@ -2,4 +2,4 @@
 use Rattle.interface.proofs.grid_calls.nigorzai_approximate_grid.Goals as goal
 
 pub returns : goal.returns
-returns c = rw c.metric_of.ensures at c.call_grid.ensures
+returns c = rw c.new.ensures at c.call_grid.ensures

@@ -3,4 +3,4 @@ use Rattle.telling.proofs.ToldLaws.{told-within}
 use Rattle.interface.proofs.ladder_calls.nigorzai_approximate_within.Goals as goal
 
 pub returns : goal.returns
-returns c = told-within _ _ _ _ _ _ _ _ _ _ _ (rw c.metric_of.ensures at c.call_ladder.ensures)
+returns c = told-within _ _ _ _ _ _ _ _ _ _ _ (rw c.new.ensures at c.call_ladder.ensures)

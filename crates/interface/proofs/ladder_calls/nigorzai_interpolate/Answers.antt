@@ -2,4 +2,4 @@
 use Rattle.interface.proofs.ladder_calls.nigorzai_interpolate.Goals as goal
 
 pub returns : goal.returns
-returns c = rw c.metric_of.ensures at c.call_ladder.ensures
+returns c = rw c.new.ensures at c.call_ladder.ensures

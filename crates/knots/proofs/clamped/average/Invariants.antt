@@ -1,14 +1,8 @@
--- Before turn j the first j inner knots are laid, and `sum` is the sum that knot j adds to. Assumes nothing.
-use mathlib.Core.Path.{◌≡◌}
-use Prim.Native.Nat.{◌+◌, ◌-◌, ◌≤◌}
-use lib.ListN.{length}
-use Rattle.places.specs.Places.{laid}
-use Rattle.places.specs.Regions.{part}
+-- Before turn j the first j inner knots stand in their places, and `sum` is the sum that knot j adds to. Assumes nothing.
+use Rattle.std.proofs.Common.{◌≡◌, ℕ, ◌<◌}
+use Rattle.geometry.specs.Doubles.{at}
 use Rattle.knots.specs.Knots.{carried, averaged_knot}
 use Rattle.knots.proofs.clamped.average.Given as goal
 
 abbrev pub invariant-loop-j : goal.invariant-loop-j
-invariant-loop-j l = (l.j ≤ l.n - l.degree - 1) × (length l.work ≡ length l.initial.work) × (l.sum ≡ carried (part l.params (l.params + l.n) l.initial.work) l.degree l.j) × (l.work ≡ laid (l.flat + (l.degree + 1)) l.j (averaged_knot (part l.params (l.params + l.n) l.initial.work) l.degree) l.initial.work)
-
-abbrev pub decreases-loop-j : goal.decreases-loop-j
-decreases-loop-j l = l.n - l.j
+invariant-loop-j l = (l.sum ≡ carried l.params l.degree l.j) × ((k : ℕ) → k < l.j → at l.inner k ≡ averaged_knot l.params l.degree k)

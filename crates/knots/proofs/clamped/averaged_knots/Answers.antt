@@ -1,6 +1,11 @@
 -- The inner knots, then the two ends. Assumes nothing.
-use Rattle.knots.proofs.KnotLaws.{averaged-laid}
+use Rattle.std.proofs.Common.{refl, length}
+use Rattle.knots.specs.Knots.{averaged_knots}
+use Rattle.knots.proofs.KnotLaws.{clamped-by}
 use Rattle.knots.proofs.clamped.averaged_knots.Goals as goal
 
 pub returns : goal.returns
-returns c = averaged-laid c.args.work.now _ _ c.args.params c.args.n c.args.degree c.args.flat c.requires.more c.requires.behind c.requires.room c.average.ensures c.clamp_ends.ensures
+unfolding averaged_knots
+returns c =
+    let a = c.args in
+    clamped-by (length a.params.now) a.degree _ a.flat.now c.average.new.inner _ _ c.requires.more c.requires.room c.average.ensures refl c.clamp_ends.ensures

@@ -1,19 +1,14 @@
 -- The sum of the parameters passed. Assumes nothing.
-use mathlib.Core.Path.{◌≡◌, sym, ap, ◌∙◌}
-use Prim.Native.Nat.{◌+◌, ◌-◌}
-use lib.Ieee.{Float}
-use Rattle.geometry.specs.Doubles.{◌⊕◌, at}
-use Rattle.knots.proofs.ParameterLaws.{below_none, below_more}
-use native.Mathlib.Omega.{arith}
+use Rattle.std.proofs.Common.{◌≡◌, ◌+◌, arith}
+use Rattle.std.specs.Float.{nan}
+use Rattle.places.proofs.RegionLaws.{get_d_part, length_part}
+use Rattle.knots.proofs.ParameterLaws.{below_more}
 use Rattle.knots.proofs.clamped.leading_sum.Goals as goal
 
-pub loop-k-init : goal.loop-k-init
-loop-k-init c = (omega arith, sym (below_none _))
-
-pub loop-k-preserved : goal.loop-k-preserved
-loop-k-preserved c = (omega arith, ap (λ (x : Float). x ⊕ at c.args.params.now (c.loop-k.k + 1)) c.loop-k.invariant.1 ∙ sym (below_more _ c.loop-k.k))
-
-pub returns : goal.returns
-returns c =
-    let e : c.loop-k.k ≡ c.args.degree - 1 = omega arith in
-    rw e at c.loop-k.invariant.1
+pub loop-x-preserved : goal.loop-x-preserved
+loop-x-preserved c =
+    let a = c.args in
+    let k = c.loop-x.x-index in
+    let e : 1 + k ≡ k + 1 = omega arith in
+    let h = length_part 1 a.degree a.params.now (omega arith) in
+    rw (below_more, ← c.loop-x.invariant, get_d_part 1 a.degree a.params.now k nan (omega (arith, h)), e)

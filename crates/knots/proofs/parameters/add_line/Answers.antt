@@ -1,14 +1,19 @@
--- The line's sums are worked out behind the places that add up, and added to them where the line has a length. Assumes nothing.
-use mathlib.Core.Path.{refl}
+-- The line's sums are worked out beside the places that add up, and added to them where the line has a length. Assumes nothing.
+use Rattle.std.proofs.Common.{◌∙◌, ◌+◌, List, ap, arith}
+use Rattle.std.specs.Float.{Float}
+use Rattle.geometry.specs.Doubles.{nought}
+use Rattle.knots.proofs.ParameterLaws.{first_put}
 use Rattle.knots.proofs.SharedLaws.{line_skipped, line-added}
 use Rattle.knots.proofs.parameters.add_line.Goals as goal
 
-pub returns-then-line : goal.returns-then-line
-returns-then-line c =
-    let e = c.line_sums-line in
-    line_skipped c.args.metric c.args.n _ c.requires.0.two c.args.used e.result c.args.out.now e.new.out _ c.requires.1.1 e.ensures.0 e.ensures.1 refl c.if-line.true
+pub returns-then-found : goal.returns-then-found
+returns-then-found c =
+    let a = c.args in
+    line_skipped a.metric a.line.count _ a.used a.sums.now _ c.line_sums-found.ensures.come_to c.if-found.true
 
 pub returns : goal.returns
 returns c =
-    let e = c.line_sums-line in
-    line-added c.args.metric c.args.n _ c.requires.0.two c.args.used e.result c.args.out.now e.new.out _ c.requires.1.1 e.ensures.0 e.ensures.1 refl c.if-line.false _ c.add_scaled.ensures
+    let a = c.args in
+    let e = c.line_sums-found.ensures in
+    ap (λ (l : List Float). record { used = a.used + 1; sums = l }) (first_put nought a.sums.now c.add_scaled.new.sums (omega arith))
+    ∙ line-added a.metric a.line.count _ a.used a.sums.now _ e.come_to c.if-found.false (omega arith) (omega arith) _ _ e.stand c.add_scaled.ensures

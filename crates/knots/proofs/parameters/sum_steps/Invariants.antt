@@ -1,10 +1,6 @@
--- Before turn k the first k sums stand in their places, and `total` is the next; the chords from k on stand in theirs. Assumes nothing.
-use Prim.Native.Nat.{◌-◌, ◌≤◌}
+-- The sums up to the chords passed stand in their places, and `total` is the last; the chords that follow stand in theirs. Assumes nothing.
 use Rattle.knots.proofs.ParameterLaws.{Stepped}
 use Rattle.knots.proofs.parameters.sum_steps.Given as goal
 
-abbrev pub invariant-loop-k : goal.invariant-loop-k
-invariant-loop-k l = (l.k ≤ l.n - 1) × Stepped l.spacing l.initial.out l.k l.out l.total
-
-abbrev pub decreases-loop-k : goal.decreases-loop-k
-decreases-loop-k l = l.n - l.k
+abbrev pub invariant-loop-x : goal.invariant-loop-x
+invariant-loop-x l = Stepped l.spacing l.initial.out l.x-index l.out l.total
