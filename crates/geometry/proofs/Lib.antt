@@ -14,7 +14,6 @@ mod Steps
 mod QuickLaws
 pub mod Patterns
 mod Special
-mod WholePart
 pub mod ErrorLaws
 pub mod RoundingLaws
 pub mod UnitLaws

@@ -14,8 +14,8 @@ pub fn largest_of(list: &[f64]) -> f64
     ensures { result ≡ largest list.now }
 {
     let mut most = 0.0;
-    for k in 0..list.len() {
-        most = max(most, list[k]);
+    for x in list {
+        most = max(most, *x);
     }
     most
 }
@@ -24,28 +24,12 @@ pub fn largest_of(list: &[f64]) -> f64
 pub fn is_finite(x: f64) -> bool
     ensures { result ≡ is_finite x }
 {
-    let infinity = 1.0 / 0.0;
-    if x < infinity { -infinity < x } else { false }
+    x.is_finite()
 }
 
 // x as usize: cut to its whole part, 0 for a NaN and below 0, and the largest usize above it.
 pub fn whole_part(x: f64) -> usize
     ensures { result ≡ whole_part x }
 {
-    if x != x {
-        return 0;
-    }
-    if x < 1.0 {
-        return 0;
-    }
-    let b = f64::to_bits(x);
-    let digits = 0x10_0000_0000_0000 + b % 0x10_0000_0000_0000;
-    let exponent = b >> 52;
-    if exponent < 1075 {
-        (digits >> (1075 - exponent)) as usize
-    } else if exponent < 1087 {
-        (digits << (exponent - 1075)) as usize
-    } else {
-        0xffff_ffff_ffff_ffff
-    }
+    std::num::saturating_f64_to_usize(x)
 }

@@ -42,9 +42,7 @@ fn sink(list: &mut [f64], k: usize)
 pub fn sort(list: &mut [f64])
     ensures { list.new ≡ sorted list.old }
 {
-    let mut k = 0;
-    while k < list.len() {
+    for k in 0..list.len() {
         sink(list, k);
-        k += 1;
     }
 }

@@ -1,9 +1,9 @@
 // The square root of an f64, correctly rounded, in whole numbers. The quick way is a guess from a table with one step of Newton, and a test that what comes of it is
 // the root; where it is not, a guess and two steps of Heron give the root of 54 binary digits, and one division the other 26.
 
-ghost use Rattle.std.specs.Prelude.{◌≡◌, ◌+◌, ◌-◌, ◌*◌, ◌/◌, ◌^◌, ◌<◌, ◌≤◌};
+ghost use Rattle.std.specs.Prelude.{IfSome, ◌≡◌, ◌+◌, ◌-◌, ◌*◌, ◌/◌, ◌^◌, ◌<◌, ◌≤◌};
 ghost use Rattle.geometry.specs.Root.{sqrt_of};
-ghost use Rattle.geometry.specs.RootSteps.{RootOf, root_bits, pattern_units, quick_is, nearest_to};
+ghost use Rattle.geometry.specs.RootSteps.{RootOf, root_bits, pattern_units, nearest_to};
 
 // The whole part q of the root of a whole number n, and the rest n - q * q.
 #[derive(Clone, Copy)]
@@ -120,13 +120,6 @@ fn careful_sqrt(x: f64) -> f64
     }
 }
 
-// What the quick way comes to.
-#[derive(Clone, Copy)]
-pub enum Quick {
-    At(u64),
-    Nothing,
-}
-
 // A guess at 2^32 / √x, where x from 1 to 4 has the digits of the bit pattern b, by the parity of its exponent. Its size is all that the proofs need.
 fn reciprocal(b: u64) -> u64
     ensures { result < 2 ^ 32 }
@@ -140,35 +133,33 @@ fn reciprocal(b: u64) -> u64
 
 // The root of n * 2^44 to the nearest whole number, from a guess y at 2^62 / √n: 31 digits q by one product, the other 22 as c by a step of Newton. With R for both,
 // R * (R + 1) has to lie above n * 2^44 by less than 2 R. The last test says so in parts of 2^22, where the square of c lies between 4 c - 2^24 and 4 c.
-fn quick_root(n: u64, y: u64) -> Quick
+fn quick_root(n: u64, y: u64) -> Option<u64>
     requires { (2 ^ 60 ≤ n) × (n < 2 ^ 62) × (y < 2 ^ 32) }
-    ensures { quick_is (nearest_to (n * 2 ^ 44)) result }
+    ensures { IfSome result (nearest_to (n * 2 ^ 44)) }
 {
     let q = ((n >> 30) * y) >> 32;
     let r = std::num::wrapping_sub_u64(n, q * q);
     if r >> 3 >= q {
-        return Quick::Nothing;
+        return None;
     }
     let c = ((r >> 3) * y + 0x20_c000_0000) >> 38;
     let square = 2 * ((q + 2) * c) + q;
     if std::num::wrapping_sub_u64(square, r * 0x40_0000 + 0x100_0000) < 2 * q - 0x100_0000 {
-        Quick::At(q * 0x40_0000 + c)
+        Some(q * 0x40_0000 + c)
     } else {
-        Quick::Nothing
+        None
     }
 }
 
 // The bit pattern of the root of the value whose bit pattern is b, at 2^-1022 or above.
-fn quick_bits(b: u64) -> Quick
+fn quick_bits(b: u64) -> Option<u64>
     requires { (1 ≤ b / 2 ^ 52) × (b / 2 ^ 52 ≤ 2046) }
-    ensures { quick_is (λ x. x ≡ root_bits (pattern_units b * 2 ^ 1074)) result }
+    ensures { IfSome result (λ x. x ≡ root_bits (pattern_units b * 2 ^ 1074)) }
 {
     let s = 0x10_0000_0000_0000 + b % 0x10_0000_0000_0000;
     let p = (b >> 52) + 1021;
-    match quick_root(s << (8 + p % 2), reciprocal(b)) {
-        Quick::Nothing => Quick::Nothing,
-        Quick::At(q) => Quick::At(p / 2 * 0x10_0000_0000_0000 + q),
-    }
+    let q = quick_root(s << (8 + p % 2), reciprocal(b))?;
+    Some(p / 2 * 0x10_0000_0000_0000 + q)
 }
 
 // The square root of x, rounded to the nearest f64.
@@ -180,7 +171,7 @@ pub fn sqrt(x: f64) -> f64
     }
     let b = f64::to_bits(x);
     if std::num::wrapping_sub_u64(b >> 52, 1) < 2046 {
-        if let Quick::At(bits) = quick_bits(b) {
+        if let Some(bits) = quick_bits(b) {
             return f64::from_bits(bits);
         }
     }

@@ -1,9 +1,15 @@
--- A value below the infinity and above the negative one is finite, and no other is. Assumes nothing.
-use Rattle.geometry.proofs.DoubleLaws.{below_infinity, not-below_infinity}
+-- std's word for it has the same cases. Assumes nothing.
+use Rattle.std.proofs.Common.{◌≡◌, ◌∙◌, refl}
+use Rattle.std.specs.Float.{float_is_finite}
+use lib.Ieee.{Float, nan, inf, fin}
+use Rattle.geometry.specs.Doubles.{is_finite}
 use Rattle.geometry.proofs.doubles.is_finite.Goals as goal
 
-pub returns-then-x-infinity : goal.returns-then-x-infinity
-returns-then-x-infinity c = below_infinity _ c.if-x-infinity.true
+same : (x : Float) → float_is_finite x ≡ is_finite x
+unfolding is_finite float_is_finite
+same nan = refl
+same (inf s) = refl
+same (fin s m e) = refl
 
-pub returns-else-x-infinity : goal.returns-else-x-infinity
-returns-else-x-infinity c = not-below_infinity _ c.if-x-infinity.false
+pub returns : goal.returns
+returns c = c.is_finite.ensures.value ∙ same c.args.x

@@ -1,6 +1,6 @@
 -- `root::quick_bits` meets its contract: the nearest whole number to the root of the scaled digits makes the pattern of the root. Assumes nothing.
 use Rattle.std.proofs.Common.{◌≡◌, ℕ, ◌+◌, ◌*◌, ◌/◌, ◌%◌, ◌^◌, ◌<◌, ◌≤◌, ap, ◌∙◌, subst, arith}
-use Rattle.geometry.specs.RootSteps.{root_bits, nearest_to, quick_is}
+use Rattle.geometry.specs.RootSteps.{root_bits, nearest_to}
 use Rattle.geometry.proofs.Steps.{doubled}
 use Rattle.geometry.proofs.QuickLaws.{nearest-below, moved, nearest-bits}
 use Rattle.geometry.proofs.Patterns.{high-number}
@@ -24,12 +24,11 @@ is-scaled : (b : ℕ) → shifted b ≡ digits b * (1 + power b % 2) * 256
 is-scaled b = moved (digits b) (power b) (omega arith) (omega arith)
 
 -- what was found is the nearest
-found : (c : goal.In-At) → (let b = c.args.b in nearest_to (digits b * (1 + power b % 2) * 2 ^ 52) c.in-At.q)
+found : (c : goal.In_ok-q) → (let b = c.args.b in nearest_to (digits b * (1 + power b % 2) * 2 ^ 52) c.in_ok-q.q)
 found c =
     let b = c.args.b in
     let e : shifted b * 2 ^ 44 ≡ digits b * (1 + power b % 2) * 2 ^ 52 = let i = is-scaled b in omega arith in
-    let near = subst (quick_is (nearest_to (shifted b * 2 ^ 44))) c.in-At.is c.quick_root.ensures in
-    subst (λ (n : ℕ). nearest_to n c.in-At.q) e near
+    subst (λ (n : ℕ). nearest_to n c.in_ok-q.q) e c.in_ok-q.ensures
 
 pub quick_root-requires : goal.quick_root-requires
 quick_root-requires c =
@@ -44,10 +43,10 @@ pub overflow_add-result : goal.overflow_add-result
 overflow_add-result c =
     let b = c.args.b in
     let d = scaled b in
-    let l = nearest-below (digits b * (1 + power b % 2) * 2 ^ 52) c.in-At.q (omega arith) (found c) in
+    let l = nearest-below (digits b * (1 + power b % 2) * 2 ^ 52) c.in_ok-q.q (omega arith) (found c) in
     omega arith
 
-pub returns-in-At : goal.returns-in-At
-returns-in-At c =
+pub returns : goal.returns
+returns c =
     let b = c.args.b in
-    nearest-bits (digits b) (power b) c.in-At.q (omega arith) (omega arith) (found c) ∙ ap root_bits (high-number b (let h = c.requires.0 in omega arith))
+    nearest-bits (digits b) (power b) c.in_ok-q.q (omega arith) (omega arith) (found c) ∙ ap root_bits (high-number b (let h = c.requires.0 in omega arith))

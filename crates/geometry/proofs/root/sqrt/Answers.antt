@@ -17,11 +17,11 @@ float_from_bits-result c =
     let b : ℕ = to_bits binary64 c.args.x in
     let above : 0 < b = omega arith in
     let below : b < 9218868437227405312 = omega arith in
-    root_is-number b _ above below c.in-At.ensures
+    root_is-number b _ above below c.in-Some.ensures
 
-pub returns-in-At : goal.returns-in-At
-returns-in-At c =
+pub returns-in-Some : goal.returns-in-Some
+returns-in-Some c =
     let b : ℕ = to_bits binary64 c.args.x in
     let above : 0 < b = omega arith in
     let below : b < 9218868437227405312 = omega arith in
-    at_positive b _ above below c.in-At.ensures c.args.x (subst T (sym c.well_formed.0.1) tt) refl
+    at_positive b _ above below c.in-Some.ensures c.args.x (subst T (sym c.well_formed.0.1) tt) refl
