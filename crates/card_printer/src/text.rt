@@ -17,7 +17,7 @@ pub struct Text<'a> {
 
 impl Text<'_> {
     // Puts bytes after the text. So do all that follow.
-    pub fn put(&mut self, bytes: &[u8])
+    fn put(&mut self, bytes: &[u8])
         requires { self.old.at + length bytes.now ≤ length self.old.out.now }
         ensures { Puts self.old self.new bytes.now }
     {
@@ -38,7 +38,7 @@ impl Text<'_> {
     }
 
     // A number without a needless zero.
-    pub fn put_decimal(&mut self, x: u64)
+    fn put_decimal(&mut self, x: u64)
         requires { self.old.at + 20 ≤ length self.old.out.now }
         ensures puts { Puts self.old self.new (decimal_text x) }
         ensures place { self.new.at ≤ self.old.at + 20 }
@@ -89,7 +89,7 @@ impl Text<'_> {
     }
 
     // The line of the mark.
-    pub fn put_values(&mut self, mark: Mark, unreadable: u64)
+    fn put_values(&mut self, mark: Mark, unreadable: u64)
         requires { self.old.at + 51 ≤ length self.old.out.now }
         ensures puts { Puts self.old self.new (mark_line mark unreadable) }
         ensures place { self.new.at ≤ self.old.at + 51 }
@@ -103,7 +103,7 @@ impl Text<'_> {
     }
 
     // The lines of the knots.
-    pub fn put_knots(&mut self, knots: &[f64], mults: &[u32])
+    fn put_knots(&mut self, knots: &[f64], mults: &[u32])
         requires as_many { length knots.now ≡ length mults.now }
         requires room { self.old.at + length knots.now * 38 ≤ length self.old.out.now }
         ensures puts { Puts self.old self.new (joined (length knots.now) (knot_line knots.now mults.now)) }
@@ -115,7 +115,7 @@ impl Text<'_> {
     }
 
     // The lines of the poles.
-    pub fn put_poles(&mut self, poles: &[f64])
+    fn put_poles(&mut self, poles: &[f64])
         requires { self.old.at + length poles.now / 3 * 51 ≤ length self.old.out.now }
         ensures puts { Puts self.old self.new (joined (length poles.now / 3) (pole_line poles.now)) }
         ensures place { self.new.at ≤ self.old.at + length poles.now / 3 * 51 }

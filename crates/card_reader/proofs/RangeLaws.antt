@@ -1,8 +1,8 @@
 -- A state in its ranges goes to a state in its ranges. Assumes nothing.
-use Prim.Native.Nat.{ℕ, suc, ◌+◌, ◌*◌, ◌^◌, ◌≤◌, ◌<◌}
+use Prim.Native.Nat.{ℕ, ◌+◌, ◌<◌}
 use mathlib.Core.Path.{◌≡◌}
 use native.Mathlib.Numerals.{add-one}
-use native.Mathlib.Nat.{pow-zero, pow-suc, pow-le-pow_right}
+use native.Mathlib.Nat.{pow-zero}
 use native.Mathlib.Omega.{arith}
 use Rattle.card_text.proofs.NumberLaws.{more-digits}
 use Rattle.card_reader.specs.Reading.{no_digits, digit_more, reached, next, Held, DigitsOf, after, kept, kept_after}

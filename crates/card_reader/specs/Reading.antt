@@ -122,6 +122,7 @@ reached (Y h n x r) b = y_next h n x r b
 reached (Z h n x y r) b = z_next h n x y r b
 reached Unreadable b = None
 
+-- the state after one byte more, unreadable where the text may not go on with it
 abbrev pub next : State → ℕ → State
 next s b = unwrap_or (reached s b) Unreadable
 
