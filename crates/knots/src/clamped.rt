@@ -16,7 +16,6 @@ fn clamp_ends(poles: usize, degree: usize, flat: &mut [f64])
 }
 
 // params[1] + .. + params[degree - 1], from 0.
-#[tactic(auto, using(crate::proofs::ParameterLaws::below_none, crate::proofs::ParameterLaws::below_more, places::proofs::RegionLaws::get_d_part))]
 fn leading_sum(params: &[f64], degree: usize) -> f64
     requires some { 1 ≤ degree }
     requires within { degree ≤ length params.now }

@@ -67,6 +67,8 @@ fn sum_steps(out: &mut [f64], spacing: Spacing) -> f64
 }
 
 // The running sums of a line's steps, in `out`. The chords come first, each on its own, so that no root waits for another.
+// Inlined, since the lines of a grid need no test of confused neighbours.
+#[inline]
 fn line_sums(line: Line, metric: Metric, out: &mut [f64]) -> LineSums
     requires { length out.old ≡ line.count }
     ensures come_to { result ≡ line_sums metric line.entry.count (on_line line.entry) }

@@ -1,9 +1,12 @@
 -- The sum of the parameters passed. Assumes nothing.
-use Rattle.std.proofs.Common.{◌≡◌, ◌+◌, arith}
+use Rattle.std.proofs.Common.{◌≡◌, ◌+◌, sym, arith}
 use Rattle.std.specs.Float.{nan}
 use Rattle.places.proofs.RegionLaws.{get_d_part, length_part}
-use Rattle.knots.proofs.ParameterLaws.{below_more}
+use Rattle.knots.proofs.ParameterLaws.{below_none, below_more}
 use Rattle.knots.proofs.clamped.leading_sum.Goals as goal
+
+pub loop-x-init : goal.loop-x-init
+loop-x-init c = sym (below_none _)
 
 pub loop-x-preserved : goal.loop-x-preserved
 loop-x-preserved c =
