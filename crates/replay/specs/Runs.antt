@@ -1,24 +1,21 @@
 -- What is lent to a call, what it comes to, and what is counted. Definitions only.
-use Rattle.std.specs.Prelude.{ℕ, ◌+◌, ◌-◌, ◌*◌, ◌/◌, ◌≤◌, ◌≡◌, Bool, cond, List, ◌⊎◌, eqb, ltb, length, Float}
+use Rattle.std.specs.Prelude.{ℕ, ◌+◌, ◌-◌, ◌*◌, ◌/◌, ◌≤◌, ◌≡◌, min, Bool, true, false, cond, Option, Some, None, Result, Ok, Err, List, ◌⊎◌, length, Float}
+use Rattle.std.specs.Option.{option_or}
 use Rattle.places.specs.Places.{list_of}
 use Rattle.knots.specs.Parameters.{plain_metric}
 use Rattle.checks.specs.declared.Room.{Room}
-use Rattle.ladders.specs.declared.Answer.{Answer}
 use Rattle.checks.specs.LadderChecks.{Lent}
-use Rattle.ladders.specs.Ladders.{LadderCall}
-use Rattle.replay_list.specs.declared.cases.Case.{Case}
-use Rattle.replay.specs.declared.runs.Turn.{Turn}
-use Rattle.replay.specs.declared.runs.Turn.TheVariants as turn
-use Rattle.replay.specs.declared.runs.Tally.{Tally}
-use Rattle.replay.specs.declared.runs.Tally.TheVariants as tally
+use Rattle.ladders.specs.Ladders.{Answer, LadderCall}
+use Rattle.replay_list.specs.declared.Case.{Case}
+use Rattle.replay_list.specs.declared.answers.ListedFit.{ListedFit}
 use Rattle.replay_list.specs.Listed.{CaseAt, place_at, listed_at}
-use Rattle.replay_list.specs.declared.answers.Listed.{Listed}
-use Rattle.replay_list.specs.declared.answers.Listed.TheVariants as listed
 use Rattle.replay_list.specs.Compared.{refused_with, same_fit}
+use Rattle.replay.specs.declared.runs.Turn.{Turn}
+use Rattle.replay.specs.declared.runs.Tally.{Tally}
 
 -- a degree, and 27 for a higher one
 abbrev pub capped : ℕ → ℕ
-capped degree = cond (ltb 27 degree) 27 degree
+capped degree = min degree 27
 
 -- the lengths that a call on n points asks, the work's by so much less
 abbrev pub needed : ℕ → ℕ → ℕ → Room
@@ -40,29 +37,21 @@ pub record Fits (r : Room) : Type 0 where
   pub for_work : r.work ≤ 132248
   pub for_index : r.index ≤ 4264
 
-pub record Lending (poles flat knots mults work index : ℕ) : Type 0 where
-  pub for_poles : 3200 ≤ poles
-  pub for_flat : 1100 ≤ flat
-  pub for_knots : 1100 ≤ knots
-  pub for_mults : 1100 ≤ mults
-  pub for_work : 132248 ≤ work
-  pub for_index : 4264 ≤ index
-
--- one case by whether the answers are the same
-abbrev pub turn_of : Bool → ℕ → Turn
-turn_of b next = cond b (turn.Same next) (turn.Different next)
+-- one case: whether the answers are the same, and where the next stands
+abbrev pub turn : Bool → ℕ → Turn
+turn same next = record { same = same; next = next }
 
 -- an answer beside the list's, which starts at a
-unfoldable pub compared : Answer → List ℕ → ℕ → ℕ → List Float → List Float → List Float → List ℕ → Listed → Turn
-compared answer w a degree poles flat knots mults (listed.Refused number) = turn_of (refused_with answer number) (a + 1)
-compared answer w a degree poles flat knots mults (listed.Fitted l) = turn_of (same_fit w l degree poles flat knots mults answer) l.next
-compared answer w a degree poles flat knots mults listed.Damaged = turn.Damaged
+unfoldable pub compared : Answer → List ℕ → ℕ → ℕ → List Float → List Float → List Float → List ℕ → Option (Result ListedFit ℕ) → Option Turn
+compared answer w a degree poles flat knots mults (Some (Err number)) = Some (turn (refused_with answer number) (a + 1))
+compared answer w a degree poles flat knots mults (Some (Ok l)) = Some (turn (same_fit w l poles flat knots mults answer) l.next)
+compared answer w a degree poles flat knots mults None = None
 
 -- a case on the points s: the call's own contract holds of its answer and of the slices l as lent and l' at exit, and the turn is that answer beside the list's
-pub record Ran (w : List ℕ) (c : Case) (s : List Float) (l l' : Lent) (r : Turn) : Type 0 where
+pub record Ran (w : List ℕ) (c : Case) (s : List Float) (l l' : Lent) (r : Option Turn) : Type 0 where
   pub answer : Answer
   pub call : LadderCall c.call s c.degree (plain_metric c.spacing) l l' answer
-  pub turn : r ≡ compared answer w (c.start + c.given) c.degree l'.poles l'.flat l'.knots l'.mults (listed_at w (c.start + c.given) c.degree)
+  pub turn : r ≡ compared answer w c.answer c.degree l'.poles l'.flat l'.knots l'.mults (listed_at w c.answer c.degree)
 
 -- the lent slices have these lengths
 pub record Lends (l : Lent) (r : Room) : Type 0 where
@@ -74,32 +63,28 @@ pub record Lends (l : Lent) (r : Room) : Type 0 where
   pub index : length l.index ≡ r.index
 
 -- with as much lent as the case asks
-pub record RanOn (w : List ℕ) (c : Case) (s : List Float) (r : Turn) : Type 0 where
+pub record RanOn (w : List ℕ) (c : Case) (s : List Float) (r : Option Turn) : Type 0 where
   pub entry : Lent
   pub exit : Lent
   pub room : Lends entry (needed (c.count / 3) (capped c.degree) c.shorter)
   pub ran : Ran w c s entry exit r
 
 -- the case whose words start at a, on its own places
-pub record ReplayedAt (w : List ℕ) (a : ℕ) (r : Turn) : Type 0 where
+pub record ReplayedAt (w : List ℕ) (a : ℕ) (r : Option Turn) : Type 0 where
   pub given : Case
   pub found : CaseAt w a given
-  pub ran : RanOn w given (list_of given.count (place_at w given)) r
+  pub ran : RanOn w given (list_of given.count (place_at given.given.now)) r
 
-abbrev pub TurnAt : List ℕ → ℕ → Turn → Type 0
-TurnAt w a r = (r ≡ turn.Damaged) ⊎ ReplayedAt w a r
+abbrev pub TurnAt : List ℕ → ℕ → Option Turn → Type 0
+TurnAt w a r = (r ≡ None) ⊎ ReplayedAt w a r
 
--- the first case that differs: the one before, unless there is none
-abbrev pub first_of : ℕ → ℕ → ℕ → ℕ
-first_of different first number = cond (eqb different 0) number first
-
--- k cases were replayed from place 1 to place a; d of them differ, the first of these is case f (0 where there is none)
-pub data Passed (w : List ℕ) : ℕ → ℕ → ℕ → ℕ → Type 0 where
-  none : Passed w 0 1 0 0
-  same : {k a d f b : ℕ} → Passed w k a d f → TurnAt w a (turn.Same b) → Passed w (k + 1) b d f
-  other : {k a d f b : ℕ} → Passed w k a d f → TurnAt w a (turn.Different b) → Passed w (k + 1) b (d + 1) (first_of d f (k + 1))
+-- k cases were replayed from place 1 to place a; d of them differ, and f is the first of these
+pub data Passed (w : List ℕ) : ℕ → ℕ → ℕ → Option ℕ → Type 0 where
+  none : Passed w 0 1 0 None
+  same : {k a d : ℕ} {f : Option ℕ} (t : Turn) → Passed w k a d f → TurnAt w a (Some t) → t.same ≡ true → Passed w (k + 1) t.next d f
+  other : {k a d : ℕ} {f : Option ℕ} (t : Turn) → Passed w k a d f → TurnAt w a (Some t) → t.same ≡ false → Passed w (k + 1) t.next (d + 1) (option_or f (Some (k + 1)))
 
 -- the whole list was replayed
-abbrev pub TalliedAs : List ℕ → ℕ → Tally → Type 0
-TalliedAs w cases (tally.Whole n different first) = (n ≡ cases) × (different ≤ cases) × Passed w cases (length w) different first
-TalliedAs w cases tally.Damaged = Unit
+abbrev pub TalliedAs : List ℕ → ℕ → Option Tally → Type 0
+TalliedAs w cases (Some t) = (t.cases ≡ cases) × (t.different ≤ cases) × Passed w cases (length w) t.different t.first
+TalliedAs w cases None = Unit

@@ -6,35 +6,35 @@
 mod runs;
 
 use crate::runs::Tally;
-use replay_list::lines::Lines;
 
 // What the replay came to. A difference is told by its case's number, from 1 on.
 fn tell(tally: Tally) {
-    match tally {
-        Tally::Damaged => {
-            io::write_all(1, b"list unreadable\n");
-        }
-        Tally::Whole(cases, different, first) => {
-            if different > 0 {
-                io::write_all(1, b"first different: case ");
-                io::print_decimal(1, first);
-                io::write_all(1, b"\n");
-            }
-            io::print_decimal(1, cases);
-            io::write_all(1, b" answers replayed, ");
-            io::print_decimal(1, different);
-            io::write_all(1, b" different\n");
-        }
+    if let Some(first) = tally.first {
+        io::write_all(1, b"first different: case ");
+        io::print_decimal(1, first);
+        io::write_all(1, b"\n");
     }
+    io::print_decimal(1, tally.cases);
+    io::write_all(1, b" answers replayed, ");
+    io::print_decimal(1, tally.different);
+    io::write_all(1, b" different\n");
+}
+
+// Replays the list that a text writes, unless it is damaged.
+fn replay_text(text: &[u8]) -> Option<Tally> {
+    let mut words = [0u64; 30840];
+    let count = replay_list::lines::read_lines(text, &mut words)?;
+    runs::replay(&words[..count])
 }
 
 // A text that fills the buffer, whose length is no number of whole lines, is damaged.
 fn main() {
     let mut text = [0u8; 524288];
     let n = io::read_full(0, &mut text);
-    let mut words = [0u64; 30840];
-    match replay_list::lines::read_lines(&text[..n], &mut words) {
-        Lines::Damaged => tell(Tally::Damaged),
-        Lines::Whole(count) => tell(crate::runs::replay(&words[..count])),
+    match replay_text(&text[..n]) {
+        Some(tally) => tell(tally),
+        None => {
+            io::write_all(1, b"list unreadable\n");
+        }
     }
 }

@@ -1,46 +1,52 @@
 // Runs the calls of the list and counts the answers that differ.
 ghost use Rattle.std.specs.Prelude.{◌≡◌, ◌≤◌, length, take, get_or};
 ghost use Rattle.checks.specs.LadderChecks.{lent};
-ghost use Rattle.replay_list.specs.Listed.{listed_at, Placed};
-ghost use Rattle.replay.specs.Runs.{turn_of, compared, capped as cappedAt, needed, Fits, Lending, Ran, RanOn, TurnAt, first_of, TalliedAs};
+ghost use Rattle.replay_list.specs.Listed.{listed_at};
+ghost use Rattle.replay.specs.Runs.{compared, capped, needed, Fits, RanOn, TurnAt, TalliedAs};
 
+use bspline::Refusal;
 use checks::Room;
+use fitting::Fit;
 use knots::Metric;
-use ladders::Answer;
-use replay_list::answers::Listed;
-use replay_list::cases::{Case, Found};
+use replay_list::Case;
+use replay_list::answers::Output;
 
-// One case: whether the answers are the same, with the place of the next case.
+// What the calls are lent: 3,200 places for points and for poles, 1,100 for flat knots, distinct knots and multiplicities, and the work and index of 1,066
+// points of degree 27.
+#[derive(Drop)]
+struct Buffers {
+    points: [f64; 3200],
+    poles: [f64; 3200],
+    flat: [f64; 1100],
+    knots: [f64; 1100],
+    mults: [u32; 1100],
+    work: [f64; 132248],
+    index: [usize; 4264],
+}
+
+// One case: whether the answers are the same, and the place of the next case.
 #[derive(Clone, Copy)]
-pub enum Turn {
-    Same(usize),
-    Different(usize),
-    Damaged,
+pub struct Turn {
+    pub same: bool,
+    pub next: usize,
 }
 
 // The whole list: how many cases, how many of them differ, and the number of the first that does.
 #[derive(Clone, Copy)]
-pub enum Tally {
-    Whole(u64, u64, u64),
-    Damaged,
-}
-
-// A degree, and 27 for a higher one.
-fn capped(degree: usize) -> usize
-    ensures { (result ≡ cappedAt degree) × (result ≤ 27) }
-{
-    if 27 < degree {
-        return 27;
-    }
-    degree
+pub struct Tally {
+    pub cases: u64,
+    pub different: u64,
+    pub first: Option<u64>,
 }
 
 // The lengths of the slices lent for n points. A degree above 27 asks no more than 27 does.
 fn lengths(n: usize, degree: usize, shorter: usize) -> Room
-    requires { (n ≤ 1066) × (shorter ≤ 1) }
-    ensures { (result ≡ needed n (cappedAt degree) shorter) × Fits result }
+    requires small { n ≤ 1066 }
+    requires short { shorter ≤ 1 }
+    ensures value { result ≡ needed n (capped degree) shorter }
+    ensures fits { Fits result }
 {
-    let p = capped(degree);
+    let p = degree.min(27);
     let flat = n + p + 1;
     Room {
         poles: 3 * n,
@@ -52,210 +58,108 @@ fn lengths(n: usize, degree: usize, shorter: usize) -> Room
     }
 }
 
-fn turn_of(same: bool, next: usize) -> Turn
-    ensures { result ≡ turn_of same next }
-{
-    if same {
-        return Turn::Same(next);
-    }
-    Turn::Different(next)
-}
-
 // An answer beside the one whose words start at a place.
+#[tactic(auto, unfolding(crate::specs::Runs::compared))]
 fn compare(
-    answer: Answer,
+    answer: Result<Fit, Refusal>,
     words: &[u64],
     start: usize,
     degree: usize,
-    poles: &[f64],
-    flat: &[f64],
-    knots: &[f64],
-    mults: &[u32],
-) -> Turn
-    ensures { result ≡ compared answer words.now start degree poles.now flat.now knots.now mults.now (listed_at words.now start degree) }
+    output: Output,
+) -> Option<Turn>
+    ensures { result ≡ compared answer words.now start degree output.entry.poles.now output.entry.flat.now output.entry.knots.now output.entry.mults.now (listed_at words.now start degree) }
 {
-    match replay_list::answers::listed_at(words, start, degree) {
-        Listed::Damaged => Turn::Damaged,
-        Listed::Refused(number) => {
-            turn_of(
-                replay_list::answers::refused_with(answer, number),
-                start + 1,
-            )
-        }
-        Listed::Fitted(fit) => {
-            let same = replay_list::answers::same_fit(
-                answer, words, fit, degree, poles, flat, knots, mults,
-            );
-            turn_of(same, fit.next)
-        }
-    }
+    let turn = match replay_list::answers::listed_at(words, start, degree)? {
+        Ok(fit) => Turn {
+            same: replay_list::answers::same_fit(answer, words, fit, output),
+            next: fit.next,
+        },
+        Err(number) => Turn {
+            same: replay_list::answers::refused_with(answer, number),
+            next: start + 1,
+        },
+    };
+    Some(turn)
 }
 
-// Runs a case on its points, and compares the answer.
-fn run_case(
-    words: &[u64],
-    case: Case,
-    points: &[f64],
-    poles: &mut [f64],
-    flat: &mut [f64],
-    knots: &mut [f64],
-    mults: &mut [u32],
-    work: &mut [f64],
-    index: &mut [usize],
-) -> Turn
-    requires { Placed (length words.now) case }
-    ensures { Ran words.now case points.now
-        (lent poles.old flat.old knots.old mults.old work.old index.old)
-        (lent poles.new flat.new knots.new mults.new work.new index.new) result }
+// Runs a case whose places are laid, with as much lent as it asks, and compares the answer.
+fn run_case(words: &[u64], case: Case, buffers: &mut Buffers) -> Option<Turn>
+    ensures { RanOn words.now case.entry (take case.entry.count buffers.old.points) result }
 {
-    let call = case.call;
-    let spacing = case.spacing;
-    let degree = case.degree;
+    let room = lengths(case.count / 3, case.degree, case.shorter);
     let metric = Metric {
-        spacing,
+        spacing: case.spacing,
         factor: 1.0,
     };
+    let poles = &mut buffers.poles.as_mut_slice()[..room.poles];
+    let flat = &mut buffers.flat.as_mut_slice()[..room.flat];
+    let knots = &mut buffers.knots.as_mut_slice()[..room.knots];
+    let mults = &mut buffers.mults.as_mut_slice()[..room.mults];
     let answer = ladders::fit_ladder(
-        points, degree, metric, call, poles, flat, knots, mults, work, index,
+        &buffers.points[..case.count],
+        case.degree,
+        metric,
+        case.call,
+        poles,
+        flat,
+        knots,
+        mults,
+        &mut buffers.work.as_mut_slice()[..room.work],
+        &mut buffers.index.as_mut_slice()[..room.index],
     );
-    let start = case.start + case.given;
-    compare(answer, words, start, degree, poles, flat, knots, mults)
-}
-
-// Runs a case whose places are laid, with as much lent as it asks.
-fn lend(
-    words: &[u64],
-    case: Case,
-    points: &[f64],
-    poles: &mut [f64],
-    flat: &mut [f64],
-    knots: &mut [f64],
-    mults: &mut [u32],
-    work: &mut [f64],
-    index: &mut [usize],
-) -> Turn
-    requires { Placed (length words.now) case × (3200 ≤ length points.now) × Lending (length poles.old) (length flat.old) (length knots.old) (length mults.old) (length work.old) (length index.old) }
-    ensures { RanOn words.now case (take case.count points.now) result }
-{
-    let count = case.count;
-    let room = lengths(count / 3, case.degree, case.shorter);
-    let for_poles = room.poles;
-    let for_flat = room.flat;
-    let for_knots = room.knots;
-    let for_mults = room.mults;
-    let for_work = room.work;
-    let for_index = room.index;
-    run_case(
-        words,
-        case,
-        &points[..count],
-        &mut poles[..for_poles],
-        &mut flat[..for_flat],
-        &mut knots[..for_knots],
-        &mut mults[..for_mults],
-        &mut work[..for_work],
-        &mut index[..for_index],
-    )
+    let output = Output {
+        poles,
+        flat,
+        knots,
+        mults,
+    };
+    compare(answer, words, case.answer, case.degree, output)
 }
 
 // Runs the case whose words start at a place.
-fn replay_case(
-    words: &[u64],
-    start: usize,
-    points: &mut [f64],
-    poles: &mut [f64],
-    flat: &mut [f64],
-    knots: &mut [f64],
-    mults: &mut [u32],
-    work: &mut [f64],
-    index: &mut [usize],
-) -> Turn
-    requires { (3200 ≤ length points.old) × Lending (length poles.old) (length flat.old) (length knots.old) (length mults.old) (length work.old) (length index.old) }
+fn replay_case(words: &[u64], start: usize, buffers: &mut Buffers) -> Option<Turn>
     ensures { TurnAt words.now start result }
 {
-    match replay_list::cases::case_at(words, start) {
-        Found::Damaged => Turn::Damaged,
-        Found::Here(case) => {
-            replay_list::cases::lay_places(words, case, points);
-            lend(words, case, points, poles, flat, knots, mults, work, index)
-        }
-    }
-}
-
-// The number of the first case that differs, with one more that does.
-fn first_of(different: u64, first: u64, number: u64) -> u64
-    requires { first ≤ number }
-    ensures { (result ≡ first_of different first number) × (result ≤ number) }
-{
-    if different == 0 {
-        return number;
-    }
-    first
+    let case = replay_list::cases::case_at(words, start)?;
+    replay_list::cases::lay_places(case, &mut buffers.points);
+    run_case(words, case, buffers)
 }
 
 // Runs so many cases one after the other, the first of them at place 1; after the last the words end.
-fn replay_cases(
-    words: &[u64],
-    cases: u64,
-    points: &mut [f64],
-    poles: &mut [f64],
-    flat: &mut [f64],
-    knots: &mut [f64],
-    mults: &mut [u32],
-    work: &mut [f64],
-    index: &mut [usize],
-) -> Tally
-    requires { (3200 ≤ length points.old) × Lending (length poles.old) (length flat.old) (length knots.old) (length mults.old) (length work.old) (length index.old) }
+fn replay_cases(words: &[u64], cases: u64, buffers: &mut Buffers) -> Option<Tally>
     ensures { TalliedAs words.now cases result }
 {
     let mut start = 1;
     let mut different = 0;
-    let mut first = 0;
+    let mut first = None;
     for k in 0..cases {
-        match replay_case(words, start, points, poles, flat, knots, mults, work, index) {
-            Turn::Damaged => {
-                return Tally::Damaged;
-            }
-            Turn::Same(next) => {
-                start = next;
-            }
-            Turn::Different(next) => {
-                start = next;
-                first = first_of(different, first, k + 1);
-                different += 1;
-            }
+        let turn = replay_case(words, start, buffers)?;
+        start = turn.next;
+        if !turn.same {
+            different += 1;
+            first = first.or(Some(k + 1));
         }
     }
-    if start != words.len() {
-        return Tally::Damaged;
-    }
-    Tally::Whole(cases, different, first)
+    (start == words.len()).then_some(Tally {
+        cases,
+        different,
+        first,
+    })
 }
 
-// The lent places: 3,200 for points and for poles, 1,100 for flat knots, distinct knots and multiplicities, and the work and index of 1,066 points
-// of degree 27.
-pub fn replay(words: &[u64]) -> Tally
+// Runs the list of these words, unless it is damaged.
+pub fn replay(words: &[u64]) -> Option<Tally>
     ensures { TalliedAs words.now (get_or words.now 0 0) result }
 {
-    if words.len() == 0 {
-        return Tally::Damaged;
-    }
-    let mut points = [0.0; 3200];
-    let mut poles = [0.0; 3200];
-    let mut flat = [0.0; 1100];
-    let mut knots = [0.0; 1100];
-    let mut mults = [0u32; 1100];
-    let mut work = [0.0; 132248];
-    let mut index = [0usize; 4264];
-    replay_cases(
-        words,
-        words[0],
-        &mut points,
-        &mut poles,
-        &mut flat,
-        &mut knots,
-        &mut mults,
-        &mut work,
-        &mut index,
-    )
+    let cases = *words.first()?;
+    let mut buffers = Buffers {
+        points: [0.0; 3200],
+        poles: [0.0; 3200],
+        flat: [0.0; 1100],
+        knots: [0.0; 1100],
+        mults: [0; 1100],
+        work: [0.0; 132248],
+        index: [0; 4264],
+    };
+    replay_cases(words, cases, &mut buffers)
 }

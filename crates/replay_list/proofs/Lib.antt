@@ -1,2 +1,2 @@
--- Laws of the text's digits.
-pub mod Digits
+-- What the loops do.
+pub mod Loops

@@ -1,11 +1,7 @@
 -- The text of a list of words. Definitions only.
-use Rattle.std.specs.Prelude.{ℕ, unwrap_or, IsSome, zero, suc, ◌+◌, ◌*◌, ◌≤◌, ◌<◌, ◌≡◌, List, length, get_or}
+use Rattle.std.specs.Prelude.{ℕ, Option, Some, None, IsSome, unwrap_or, zero, suc, ◌+◌, ◌*◌, ◌≤◌, ◌<◌, ◌≡◌, List, length, get_or}
 use Rattle.places.specs.Places.{laid}
 use Rattle.card_text.specs.Text.{digit_of}
-use Rattle.replay_list.specs.declared.lines.Word.{Word}
-use Rattle.replay_list.specs.declared.lines.Word.TheVariants as word
-use Rattle.replay_list.specs.declared.lines.Lines.{Lines}
-use Rattle.replay_list.specs.declared.lines.Lines.TheVariants as lines
 
 -- the number that the k digits from a on write
 unfoldable pub value_of : List ℕ → ℕ → ℕ → ℕ
@@ -17,9 +13,10 @@ pub record Line (s : List ℕ) (a : ℕ) : Type 0 where
   pub digits : (k : ℕ) → k < 16 → IsSome (digit_of (get_or s (a + k) 0))
   pub newline : get_or s (a + 16) 0 ≡ 10
 
-abbrev pub ReadAt : List ℕ → ℕ → Word → Type 0
-ReadAt s a (word.Is w) = Line s a × (w ≡ value_of s a 16)
-ReadAt s a word.Damaged = Line s a → ⊥
+-- the word of the line from a on, or no line stands there
+abbrev pub ReadAt : List ℕ → ℕ → Option ℕ → Type 0
+ReadAt s a (Some w) = Line s a × (w ≡ value_of s a 16)
+ReadAt s a None = Line s a → ⊥
 
 -- the text is n lines
 pub record AreLines (s : List ℕ) (n : ℕ) : Type 0 where
@@ -27,6 +24,6 @@ pub record AreLines (s : List ℕ) (n : ℕ) : Type 0 where
   pub each : (k : ℕ) → k < n → Line s (17 * k)
 
 -- the words of n lines are laid from the first place on; or the text is no lines, or more than there are places
-abbrev pub ReadAs : List ℕ → List ℕ → List ℕ → Lines → Type 0
-ReadAs s old new (lines.Whole n) = AreLines s n × (n ≤ length old) × (new ≡ laid 0 n (λ k. value_of s (17 * k) 16) old)
-ReadAs s old new lines.Damaged = (n : ℕ) → AreLines s n → n ≤ length old → ⊥
+abbrev pub ReadAs : List ℕ → List ℕ → List ℕ → Option ℕ → Type 0
+ReadAs s old new (Some n) = AreLines s n × (n ≤ length old) × (new ≡ laid 0 n (λ k. value_of s (17 * k) 16) old)
+ReadAs s old new None = (n : ℕ) → AreLines s n → n ≤ length old → ⊥

@@ -4,13 +4,14 @@ ghost use Rattle.std.specs.Prelude.{◌≡◌, length};
 ghost use Rattle.replay_list.specs.Compared.{refused_with, same_told, same_values, same_fit};
 ghost use Rattle.replay_list.specs.Listed.{listed_at, Within, Held};
 
-use crate::doubles::{same_doubles, same_numbers};
+use crate::values::same_words;
+use bspline::Refusal;
 use fitting::Fit;
-use ladders::Answer;
 
 // A fit as the list has it. Its values start at `values`, and after them stands the next case.
 #[derive(Clone, Copy)]
 pub struct ListedFit {
+    pub degree: usize,
     pub mark: u64,
     pub largest: u64,
     pub poles: usize,
@@ -20,135 +21,102 @@ pub struct ListedFit {
     pub next: usize,
 }
 
+// The slices that a call hands its values out in.
 #[derive(Clone, Copy)]
-pub enum Listed {
-    Refused(u64),
-    Fitted(ListedFit),
-    Damaged,
+pub struct Output<'a> {
+    pub poles: &'a [f64],
+    pub flat: &'a [f64],
+    pub knots: &'a [f64],
+    pub mults: &'a [u32],
 }
 
-// The answer whose words start at a place, of a call of a degree.
-pub fn listed_at(words: &[u64], start: usize, degree: usize) -> Listed
-    ensures { (result ≡ listed_at words.now start degree) × Held (length words.now) start degree result }
+// The answer whose words start at a place, of a call of a degree: a fit, or the number of a refusal.
+#[tactic(auto, unfolding(crate::specs::Listed::listed_at))]
+pub fn listed_at(words: &[u64], start: usize, degree: usize) -> Option<Result<ListedFit, u64>>
+    ensures value { result ≡ listed_at words.now start degree }
+    ensures held { Held (length words.now) start result }
 {
-    if words.len() <= start {
-        return Listed::Damaged;
-    }
-    let number = words[start];
+    let number = *words.get(start)?;
     if number != 0 {
-        return Listed::Refused(number);
+        return Some(Err(number));
     }
-    if words.len() - start < 6 {
-        return Listed::Damaged;
+    let [_, mark, largest, poles, knots, unreadable, ..] = &words[start..] else {
+        return None;
+    };
+    let poles = *poles as usize;
+    let knots = *knots as usize;
+    if degree > 25 || poles > 1024 || knots > 1050 {
+        return None;
     }
-    let poles = words[start + 3] as usize;
-    let knots = words[start + 4] as usize;
-    if degree > 25 {
-        return Listed::Damaged;
-    }
-    if poles > 1024 {
-        return Listed::Damaged;
-    }
-    if knots > 1050 {
-        return Listed::Damaged;
-    }
-    let next = start + 6 + (poles + degree + 1) + 2 * knots + 3 * poles;
+    let values = start + 6;
+    let next = values + (poles + degree + 1) + 2 * knots + 3 * poles;
     if words.len() < next {
-        return Listed::Damaged;
+        return None;
     }
-    Listed::Fitted(ListedFit {
-        mark: words[start + 1],
-        largest: words[start + 2],
+    Some(Ok(ListedFit {
+        degree,
+        mark: *mark,
+        largest: *largest,
         poles,
         knots,
-        unreadable: words[start + 5] as usize,
-        values: start + 6,
+        unreadable: *unreadable as usize,
+        values,
         next,
-    })
+    }))
 }
 
 // Whether an answer is the refusal of a number.
-pub fn refused_with(answer: Answer, number: u64) -> bool
+#[tactic(auto, unfolding(crate::specs::Compared::refused_with))]
+pub fn refused_with(answer: Result<Fit, Refusal>, number: u64) -> bool
     ensures { result ≡ refused_with answer number }
 {
     match answer {
-        Answer::Refused(c) => c.number() as u64 == number,
-        Answer::Fitted(_) => false,
+        Ok(_) => false,
+        Err(c) => u64::from(c.number()) == number,
     }
 }
 
 // Whether mark, largest deviation and counts are those of the list.
+#[tactic(auto, unfolding(crate::specs::Compared::same_told))]
 fn same_told(fit: Fit, listed: ListedFit) -> bool
     ensures { result ≡ same_told fit listed }
 {
-    let mark = fit.mark;
-    if mark.number() as u64 != listed.mark {
-        return false;
-    }
-    if card_text::to_word(mark.deviation()) != listed.largest {
-        return false;
-    }
-    if fit.poles != listed.poles {
-        return false;
-    }
-    if fit.knots != listed.knots {
-        return false;
-    }
-    fit.unreadable == listed.unreadable
+    fit.mark.number() as u64 == listed.mark
+        && card_text::to_word(fit.mark.deviation()) == listed.largest
+        && fit.poles == listed.poles
+        && fit.knots == listed.knots
+        && fit.unreadable == listed.unreadable
 }
 
 // Whether the values handed out are those of the list.
-fn same_values(
-    words: &[u64],
-    listed: ListedFit,
-    degree: usize,
-    poles: &[f64],
-    flat: &[f64],
-    knots: &[f64],
-    mults: &[u32],
-) -> bool
-    requires { Within (length words.now) degree listed }
-    ensures { result ≡ same_values words.now listed degree poles.now flat.now knots.now mults.now }
+#[tactic(auto, unfolding(crate::specs::Compared::same_values))]
+fn same_values(words: &[u64], listed: ListedFit, output: Output) -> bool
+    requires { Within (length words.now) listed }
+    ensures { result ≡ same_values words.now listed output.entry.poles.now output.entry.flat.now output.entry.knots.now output.entry.mults.now }
 {
-    let m = listed.poles;
-    let n = listed.knots;
-    let at_flat = listed.values;
-    let at_knots = at_flat + (m + degree + 1);
-    let at_mults = at_knots + n;
-    let at_poles = at_mults + n;
-    if !same_doubles(flat, m + degree + 1, words, at_flat) {
-        return false;
-    }
-    if !same_doubles(knots, n, words, at_knots) {
-        return false;
-    }
-    if !same_numbers(mults, n, words, at_mults) {
-        return false;
-    }
-    same_doubles(poles, 3 * m, words, at_poles)
+    let at_knots = listed.values + (listed.poles + listed.degree + 1);
+    let at_mults = at_knots + listed.knots;
+    let at_poles = at_mults + listed.knots;
+    let end = at_poles + 3 * listed.poles;
+    same_words(output.flat, &words[listed.values..at_knots])
+        && same_words(output.knots, &words[at_knots..at_mults])
+        && same_words(output.mults, &words[at_mults..at_poles])
+        && same_words(output.poles, &words[at_poles..end])
 }
 
 // Whether an answer is a fit of the list.
+#[tactic(auto, unfolding(crate::specs::Compared::same_fit))]
 pub fn same_fit(
-    answer: Answer,
+    answer: Result<Fit, Refusal>,
     words: &[u64],
     listed: ListedFit,
-    degree: usize,
-    poles: &[f64],
-    flat: &[f64],
-    knots: &[f64],
-    mults: &[u32],
+    output: Output,
 ) -> bool
-    requires { Within (length words.now) degree listed }
-    ensures { result ≡ same_fit words.now listed degree poles.now flat.now knots.now mults.now answer }
+    requires { Within (length words.now) listed }
+    ensures { result ≡ same_fit words.now listed output.entry.poles.now output.entry.flat.now output.entry.knots.now output.entry.mults.now answer }
 {
     match answer {
-        Answer::Refused(_) => false,
-        Answer::Fitted(fit) => {
-            if !same_told(fit, listed) {
-                return false;
-            }
-            same_values(words, listed, degree, poles, flat, knots, mults)
-        }
+        Ok(fit) => same_told(fit, listed) && same_values(words, listed, output),
+        Err(_) => false,
     }
 }

@@ -1,109 +1,68 @@
 // The calls of the list. A call's words: entry, degree, spacing, pole count, tolerance, how many places, how many of them are given,
 // by how much the work is too short, and the given places. The places that are not given repeat the last that is.
-ghost use Rattle.std.specs.Prelude.{◌≡◌, ◌≤◌, ◌<◌, length};
+ghost use Rattle.std.specs.Prelude.{◌≡◌, ◌≤◌, length};
 ghost use Rattle.places.specs.Places.{laid};
-ghost use Rattle.replay_list.specs.Listed.{call_of, FoundAt, Placed, given_at, place_at};
+ghost use Rattle.replay_list.specs.Listed.{call_of, FoundAt, place_at};
 
+use crate::Case;
 use checks::Call;
-use knots::Spacing;
-
-// `count` places, of which the words from `start` on give `given`.
-#[derive(Clone, Copy)]
-pub struct Case {
-    pub call: Call,
-    pub degree: usize,
-    pub spacing: Spacing,
-    pub count: usize,
-    pub given: usize,
-    pub shorter: usize,
-    pub start: usize,
-}
-
-#[derive(Clone, Copy)]
-pub enum Found {
-    Here(Case),
-    Damaged,
-}
 
 // The call of an entry's number.
-fn call_of(entry: u64, count: u64, tolerance: u64) -> Call
+fn call_of(entry: u64, count: u64, tolerance: u64) -> Option<Call>
     ensures { result ≡ call_of entry count tolerance }
 {
-    if entry == 0 {
-        return Call::Interpolate;
+    match entry {
+        0 => Some(Call::Interpolate),
+        1 => Some(Call::Approximate(count as usize)),
+        2 => Some(Call::ApproximateWithin(card_text::from_word(tolerance))),
+        3 => Some(Call::SearchSpread(card_text::from_word(tolerance))),
+        _ => None,
     }
-    if entry == 1 {
-        return Call::Approximate(count as usize);
-    }
-    if entry == 2 {
-        return Call::ApproximateWithin(card_text::from_word(tolerance));
-    }
-    Call::SearchSpread(card_text::from_word(tolerance))
 }
 
 // The case whose words start at a place.
-pub fn case_at(words: &[u64], start: usize) -> Found
+pub fn case_at(words: &[u64], start: usize) -> Option<Case<'_>>
     ensures { FoundAt words.now start result }
 {
-    if words.len() < start {
-        return Found::Damaged;
-    }
-    if words.len() - start < 8 {
-        return Found::Damaged;
-    }
-    let entry = words[start];
-    let count = words[start + 5] as usize;
-    let given = words[start + 6] as usize;
-    let shorter = words[start + 7] as usize;
-    if entry > 3 {
-        return Found::Damaged;
-    }
-    if count > 3200 {
-        return Found::Damaged;
-    }
-    if given > count {
-        return Found::Damaged;
-    }
-    if count > 3200 * given {
-        return Found::Damaged;
-    }
-    if given > words.len() - start - 8 {
-        return Found::Damaged;
-    }
-    if shorter > 1 {
-        return Found::Damaged;
-    }
-    Found::Here(Case {
-        call: call_of(entry, words[start + 3], words[start + 4]),
-        degree: words[start + 1] as usize,
-        spacing: Spacing::from(words[start + 2] as usize),
+    let [
+        entry,
+        degree,
+        spacing,
+        chosen,
+        tolerance,
         count,
         given,
         shorter,
-        start: start + 8,
+        rest @ ..,
+    ] = words.get(start..)?
+    else {
+        return None;
+    };
+    let call = call_of(*entry, *chosen, *tolerance)?;
+    let count = *count as usize;
+    let given = rest.get(..*given as usize)?;
+    let shorter = *shorter as usize;
+    if count > 3200 || given.len() > count || count > 3200 * given.len() || shorter > 1 {
+        return None;
+    }
+    Some(Case {
+        call,
+        degree: *degree as usize,
+        spacing: Spacing::from(*spacing as usize),
+        count,
+        given,
+        shorter,
+        answer: start + 8 + given.len(),
     })
 }
 
-// The given place that place k has.
-fn given_at(k: usize, given: usize) -> usize
-    requires { 0 < given }
-    ensures { (result ≡ given_at k given) × (result < given) }
-{
-    if k < given {
-        return k;
-    }
-    given - 1
-}
-
 // Lays a case's places from the first place on.
-pub fn lay_places(words: &[u64], case: Case, points: &mut [f64])
-    requires { Placed (length words.now) case × (3200 ≤ length points.old) }
-    ensures { points.new ≡ laid 0 case.count (place_at words.now case) points.old }
+#[tactic(auto, using(crate::proofs::Loops::laying))]
+pub fn lay_places(case: Case, points: &mut [f64])
+    requires { 3200 ≤ length points.old }
+    ensures { points.new ≡ laid 0 case.entry.count (place_at case.entry.given.now) points.old }
 {
-    let start = case.start;
-    let given = case.given;
     for k in 0..case.count {
-        let j = given_at(k, given);
-        points[k] = card_text::from_word(words[start + j]);
+        points[k] = card_text::from_word(case.given[k.min(case.given.len() - 1)]);
     }
 }

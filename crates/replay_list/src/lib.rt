@@ -3,5 +3,27 @@
 
 pub mod answers;
 pub mod cases;
-pub mod doubles;
 pub mod lines;
+pub mod values;
+
+ghost use Rattle.std.specs.Prelude.{◌*◌, ◌≤◌, length};
+
+use checks::Call;
+use knots::Spacing;
+
+// A call of the list on `count` places. The words of the first of them are given, and the others repeat the last of these. The work is `shorter` places too
+// short, and the words of the answer start at `answer`.
+#[derive(Clone, Copy)]
+pub struct Case<'a> {
+    pub call: Call,
+    pub degree: usize,
+    pub spacing: Spacing,
+    pub count: usize,
+    pub given: &'a [u64],
+    pub shorter: usize,
+    pub answer: usize,
+    pub ghost few: { count ≤ 3200 },
+    pub ghost no_more: { length given.now ≤ count },
+    pub ghost some: { count ≤ 3200 * length given.now },
+    pub ghost short: { shorter ≤ 1 },
+}

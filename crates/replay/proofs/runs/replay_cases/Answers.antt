@@ -1,56 +1,23 @@
--- The invariant: k cases were replayed, and the room keeps its lengths. Assumes nothing.
-use mathlib.Core.Path.{◌≡◌, refl}
-use Rattle.replay.proofs.runs.replay_cases.Goals.{in-Same, in-Different}
-use native.Mathlib.Omega.{arith}
-use borrow.Author.Rules.{rules}
+-- A case more was replayed, and it differs or not. Assumes nothing.
+use Rattle.std.proofs.Common.{arith}
+use Rattle.std.proofs.lemmas.Bool.{not-true, not-false}
 use Rattle.replay.specs.Runs.{none, same, other}
 use Rattle.replay.proofs.runs.replay_cases.Goals as goal
+use Rattle.replay.proofs.runs.replay_cases.Goals.{then-not-turn, else-not-turn}
 
 pub loop-k-init : goal.loop-k-init
-loop-k-init c = (omega arith, omega arith, omega arith, none, refl, refl, refl, refl, refl, refl, refl)
-
-pub returns-in-Damaged : goal.returns-in-Damaged
-returns-in-Damaged c = tt
-
-pub overflow_add-different : goal.overflow_add-different
-overflow_add-different c = let i = c.loop-k.invariant in let t = c.loop-k-test.true in let f = c.ranges.cases in omega arith
+loop-k-init c = record { few = omega arith; passed = none }
 
 pub loop-k-preserved : goal.loop-k-preserved
 loop-k-preserved c =
-    let r = c.replay_case.auto in
-    let i = c.loop-k.invariant in
-    let t = c.loop-k-test.true in
-    elim c.match-replay_case.branch [
-      | in-Same w ↦ (
-        omega arith,
-        omega arith,
-        omega arith,
-        rw (w.start-is, w.different-is, w.first-is) (same i.3 w.in-Same.ensures),
-        search rules,
-        search rules,
-        search rules,
-        search rules,
-        search rules,
-        search rules,
-        search rules,
-      )
-      | in-Different w ↦ (
-        omega arith,
-        omega arith,
-        omega (arith, w.first_of-first.ensures.1),
-        rw (w.start-is, w.different-is, w.first-is, w.first_of-first.ensures.0) (other i.3 w.in-Different.ensures),
-        search rules,
-        search rules,
-        search rules,
-        search rules,
-        search rules,
-        search rules,
-        search rules,
-      )
+    let h = c.loop-k.invariant in
+    elim c.if-not-turn.branch [
+      | then-not-turn w ↦ record {
+        few = omega arith;
+        passed = rw (w.different-is, w.first-is, w.or-first.ensures) (other c.in_ok-turn.turn h.passed c.in_ok-turn.ensures (not-true _ w.if-not-turn.true));
+      }
+      | else-not-turn w ↦ record {
+        few = omega arith;
+        passed = rw (w.different-is, w.first-is) (same c.in_ok-turn.turn h.passed c.in_ok-turn.ensures (not-false _ w.if-not-turn.false));
+      }
     ]
-
-pub returns-then-start-words : goal.returns-then-start-words
-returns-then-start-words c = tt
-
-pub returns : goal.returns
-returns c = let i = c.loop-k.invariant in let e : c.loop-k.k ≡ c.args.cases = omega arith in (refl, omega arith, rw (e, c.if-start-words.false) at i.3)

@@ -1,8 +1,5 @@
 -- The invariant: w is the number that the first k digits write, and they are digits. Assumes nothing.
-use mathlib.Core.Path.{◌≡◌}
-use Prim.Native.Nat.{ℕ, ◌+◌, ◌^◌, ◌<◌}
-use lib.ListN.{get_or}
-use Rattle.std.specs.Prelude.{IsSome}
+use Rattle.std.proofs.Common.{◌≡◌, ℕ, ◌+◌, ◌^◌, ◌<◌, get_or, IsSome}
 use Rattle.card_text.specs.Text.{digit_of}
 use Rattle.replay_list.specs.Text.{value_of}
 use Rattle.replay_list.proofs.lines.word_at.Given as goal

@@ -1,8 +1,0 @@
--- By the test. Assumes nothing.
-use Rattle.replay.proofs.runs.turn_of.Goals as goal
-
-pub returns-then-same : goal.returns-then-same
-returns-then-same c = rw c.if-same.true
-
-pub returns : goal.returns
-returns c = rw c.if-same.false
