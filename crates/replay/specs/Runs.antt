@@ -1,5 +1,5 @@
 -- What is lent to a call, what it comes to, and what is counted. Definitions only.
-use Rattle.std.specs.Prelude.{ℕ, ◌+◌, ◌-◌, ◌*◌, ◌/◌, ◌≤◌, ◌≡◌, min, Bool, true, false, cond, Option, Some, None, Result, Ok, Err, List, ◌⊎◌, length, Float}
+use Rattle.std.specs.Prelude.{ℕ, ◌+◌, ◌-◌, ◌*◌, ◌/◌, ◌≤◌, ◌≡◌, min, Bool, true, false, Option, Some, None, Result, Ok, Err, List, ◌⊎◌, length, Float}
 use Rattle.std.specs.Option.{option_or}
 use Rattle.places.specs.Places.{list_of}
 use Rattle.knots.specs.Parameters.{plain_metric}

@@ -6,6 +6,7 @@ ghost use Rattle.replay_list.specs.Listed.{call_of, FoundAt, place_at};
 
 use crate::Case;
 use checks::Call;
+use knots::Spacing;
 
 // The call of an entry's number.
 fn call_of(entry: u64, count: u64, tolerance: u64) -> Option<Call>

@@ -1,5 +1,6 @@
 -- The invariant: w is the number that the first k digits write, and they are digits. Assumes nothing.
-use Rattle.std.proofs.Common.{◌≡◌, ℕ, ◌+◌, ◌^◌, ◌<◌, get_or, IsSome}
+use Rattle.std.proofs.Common.{◌≡◌, ℕ, ◌+◌, ◌^◌, ◌<◌, get_or}
+use Rattle.std.specs.Prelude.{IsSome}
 use Rattle.card_text.specs.Text.{digit_of}
 use Rattle.replay_list.specs.Text.{value_of}
 use Rattle.replay_list.proofs.lines.word_at.Given as goal
