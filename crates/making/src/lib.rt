@@ -28,7 +28,12 @@ pub struct Standing {
 }
 
 // Through the points.
-fn make_through(work: &mut [f64], index: &mut [usize], points: &[f64], job: Job) -> Result<Standing, Refusal>
+fn make_through(
+    work: &mut [f64],
+    index: &mut [usize],
+    points: &[f64],
+    job: Job,
+) -> Result<Standing, Refusal>
     requires { HasJob job points.now work.old index.old }
     ensures { Makes job points.now (fit_by Interpolate (direction_of job points.now work.old index.old))
         work.old work.new index.old index.new result }
@@ -203,7 +208,13 @@ pub fn make_direction(
 }
 
 // By what the call asks for.
-pub fn make(work: &mut [f64], index: &mut [usize], points: &[f64], job: Job, call: Call) -> Result<Standing, Refusal>
+pub fn make(
+    work: &mut [f64],
+    index: &mut [usize],
+    points: &[f64],
+    job: Job,
+    call: Call,
+) -> Result<Standing, Refusal>
     requires { HasJob job points.now work.old index.old × (count_verdict call job.table.count job.table.degree ≡ pass) }
     ensures { Makes job points.now (fit_by call (direction_of job points.now work.old index.old))
         work.old work.new index.old index.new result }

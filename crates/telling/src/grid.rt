@@ -12,11 +12,7 @@ use grids::GridFit;
 use knots::Metric;
 
 // The number of an answer, with both marks and counts of a fit in the lent slices.
-fn tell_grid(
-    answer: Result<GridFit, Refusal>,
-    largest: &mut [f64],
-    counts: &mut [usize],
-) -> u32
+fn tell_grid(answer: Result<GridFit, Refusal>, largest: &mut [f64], counts: &mut [usize]) -> u32
     requires { (2 ≤ length largest.old) × (8 ≤ length counts.old) }
     ensures value { result ≡ number_in answer }
     ensures largest_after { largest.new ≡ told_grid_largest answer largest.old }
