@@ -109,10 +109,12 @@ taken xs ys h = part-laid 0 (length xs) (at xs) ys nan (omega arith) ∙ list_of
 
 -- ---- copies of parts
 
-pub handed_copy : (a e : ℕ) (w to out : List Float) → e ≤ length w → e - a ≤ length to → out ≡ part a e w ++ drop (length (part a e w)) to
-    → out ≡ laid 0 (length (part a e w)) (at (part a e w)) to
-handed_copy a e w to out inside room copied =
-    copied ∙ sym (laid_copy (part a e w) to nan (subst (λ m. m ≤ length to) (sym (length_part a e w inside)) room))
+pub handed_copy : (a e : ℕ) (w to ys : List Float) → e ≤ length w → e - a ≤ length to → ys ≡ part a e w → ys ++ drop (e - a) to ≡ laid 0 (length (part a e w)) (at (part a e w)) to
+handed_copy a e w to ys inside room copied =
+    let long : length (part a e w) ≡ e - a = length_part a e w inside in
+    ap (λ (l : List Float). l ++ drop (e - a) to) copied
+    ∙ ap (λ (m : ℕ). part a e w ++ drop m to) (sym long)
+    ∙ sym (laid_copy (part a e w) to nan (subst (λ m. m ≤ length to) (sym long) room))
 
 -- ---- from the mark that is handed back to the fit behind it
 pub refined_mark : (a : Marked) (x : Float) → mark_of a ≡ Refined x → (f : Candidate) × (a ≡ refined f)

@@ -1,13 +1,15 @@
 -- A refined fit that is saved while the spread search runs below it: the search writes before the saved places, so the fit comes back. Assumes nothing.
 use mathlib.Core.Path.{◌≡◌, refl, sym, ap, ◌∙◌}
-use mathlib.Core.List.{List}
+use mathlib.Core.List.{List, ◌++◌, append_assoc}
 use mathlib.Core.Logic.{◌⊎◌, inl, inr}
 use mathlib.Core.Option.{some}
 use Prim.Native.Nat.{ℕ, ◌+◌, ◌-◌, ◌*◌, ◌≤◌}
 use native.Mathlib.Omega.{arith}
-use lib.ListN.{length}
+use lib.ListN.{length, take, drop}
+use lib.Seq.{drop-drop}
 use lib.Ieee.{Float}
 use Rattle.std.specs.Prelude.{Option, Some, None, Ok}
+use Rattle.std.specs.List.{copy_within}
 use Rattle.places.specs.Regions.{part, splice}
 use Rattle.places.proofs.RegionLaws.{length_part, part-splice}
 use Rattle.tables.specs.declared.Measured.{Measured}
@@ -28,6 +30,13 @@ use Rattle.making.proofs.MakeLaws.{stands_here, makes_later}
 
 -- ---- the two copies
 
+-- the n places from a on, copied to those from b on
+pub copied_within : (a b n : ℕ) (w : List Float) → copy_within w a (a + n) b ≡ splice b (b + n) (part a (a + n) w) w
+copied_within a b n w =
+    let m : b + (a + n - a) ≡ b + (b + n - b) = omega arith in
+    append_assoc (take b w) (part a (a + n) w) (drop (b + (a + n - a)) w)
+    ∙ ap (λ (l : List Float). take b w ++ (part a (a + n) w ++ l)) (ap (λ (k : ℕ). drop k w) m ∙ sym (drop-drop (b + n - b) b w))
+
 module _ (l n flat poles to behind : ℕ) (w : List Float) (x : CopiesFit l n flat poles to behind (length w)) where
   abbrev knots : List Float
   knots = part flat (flat + l) w
@@ -42,7 +51,7 @@ module _ (l n flat poles to behind : ℕ) (w : List Float) (x : CopiesFit l n fl
     kept-knots : Kept to (to + l) w w₁
     kept-knots = rw e (kept-splice to (to + l) knots w (omega arith) knots-room knots-long)
 
-    pub poles-next : ((poles + n ≤ behind) ⊎ (behind + n ≤ poles)) × (poles + n ≤ length w₁) × (behind + n ≤ length w₁)
+    poles-next : ((poles + n ≤ behind) ⊎ (behind + n ≤ poles)) × (poles + n ≤ length w₁) × (behind + n ≤ length w₁)
     poles-next = (x.poles_apart, omega (arith, kept-knots.long, x.poles_inside), omega (arith, kept-knots.long, x.room))
 
     same-poles : (poles + n ≤ to) ⊎ (to + l ≤ poles) → part poles (poles + n) w₁ ≡ part poles (poles + n) w

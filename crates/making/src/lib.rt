@@ -126,8 +126,8 @@ fn copy_fit(
     requires { CopiesFit l n flat poles to behind (length work.old) }
     ensures { FitCopied l n flat poles to behind work.old work.new }
 {
-    places::copy_within(work, flat, l, to);
-    places::copy_within(work, poles, n, behind);
+    work.copy_within(flat..flat + l, to);
+    work.copy_within(poles..poles + n, behind);
 }
 
 // By the spread search below the poles of the refined fit that stands on l flat knots; else that fit.

@@ -18,7 +18,7 @@ pub fn hand_knots(
         flat.old flat.new knots.old knots.new mults.old mults.new result }
 {
     let f = b + (m + degree + 1);
-    places::copy(&work[b..f], flat);
+    flat[..f - b].copy_from_slice(&work[b..f]);
     knots::runs::compress_knots(&work[b..f], knots, mults)
 }
 
@@ -40,6 +40,6 @@ pub fn hand_out(
         knots.old knots.new mults.old mults.new result }
 {
     let e = a + 3 * m;
-    places::copy(&work[a..e], poles);
+    poles[..e - a].copy_from_slice(&work[a..e]);
     hand_knots(work, b, m, degree, flat, knots, mults)
 }

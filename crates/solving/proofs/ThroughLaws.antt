@@ -9,10 +9,10 @@ use lib.Dec.{leb}
 use lib.ListN.{length, get_or, replicate, length-set, length-replicate, take-append-drop}
 use lib.Ieee.{Float, eq}
 use Rattle.places.specs.Loops.{each}
-use Rattle.places.specs.Places.{laid, joined}
+use Rattle.places.specs.Places.{joined}
 use Rattle.places.specs.Regions.{part, splice}
 use Rattle.places.proofs.LoopLaws.{each_cong, cond_both}
-use Rattle.places.proofs.PlaceLaws.{laid_region, list_of-replicate, joined-more, length-joined, row_inside, joined_same}
+use Rattle.places.proofs.PlaceLaws.{joined-more, length-joined, row_inside, joined_same}
 use Rattle.places.proofs.RegionLaws.{Apart, length-each, part-splice, splice_then, splice_join, splice_on, length-down}
 use Rattle.geometry.specs.declared.Point.{Point}
 use Rattle.geometry.specs.Doubles.{◌⊗◌, ◌⊘◌, one, nought, at}
@@ -117,17 +117,14 @@ has-matrix-kept t band end w w' index x e =
 
 -- the region cleared, and then filled row by row
 pub matrix_filled : (t : Table) (band end : ℕ) (w w₁ w₂ : List Float) (index : List ℕ) → HasMatrix t band end w index
-    → w₁ ≡ laid band (t.count * (2 * (t.degree - 1) + 1)) (λ (k : ℕ). nought) w
+    → w₁ ≡ splice band end (replicate (t.count * (2 * (t.degree - 1) + 1)) nought) w
     → w₂ ≡ splice band end (each 0 t.count (row_turn t index (part t.values (t.values + t.count * (t.degree + 1)) w₁)) (part band end w₁)) w₁
     → w₂ ≡ splice band end (interpolation_matrix (table_in t w index)) w
 unfolding table_in
-matrix_filled t band end w w₁ w₂ index x e₁ e₂ =
+matrix_filled t band end w w₁ w₂ index x cleared e₂ =
     let size : ℕ = t.count * (2 * (t.degree - 1) + 1) in
-    let z : band + size ≡ end = sym x.size in
-    let cleared : w₁ ≡ splice band end (replicate size nought) w =
-    e₁ ∙ laid_region band size (λ (k : ℕ). nought) w (omega (arith, x.size, x.room)) ∙ rw (list_of-replicate size nought, z) in
     splice_then t.values (t.values + t.count * (t.degree + 1)) band end (λ v y. each 0 t.count (row_turn t index v) y) (replicate size nought) w w₁ w₂
-    (omega arith) x.values_before (omega arith) x.room (length-replicate size nought ∙ omega arith) cleared e₂
+    (omega arith) x.values_before (omega arith) x.room (length-replicate size nought ∙ omega (arith, x.size)) cleared e₂
     ∙ ap (λ (ys : List Float). splice band end ys w) (sym (matrix_in t w index x.table.firsts_in))
 
 -- ---- a line

@@ -112,7 +112,7 @@ pub fn normal_matrix(work: &mut [f64], index: &[usize], table: Table, m: usize, 
         (normal_matrix (table_in table work.old index.now) m) work.old }
 {
     let end = band + m * (table.degree + 1);
-    places::clear(&mut work[band..end]);
+    work[band..end].fill(0.0);
     add_rows(work, index, table, m, band);
 }
 
@@ -183,7 +183,7 @@ pub fn right_hand(
         (right_hand (table_in table work.old index.now) m (data_point given points.now work.old r)) work.old }
 {
     let end = poles + 3 * m;
-    places::clear(&mut work[poles..end]);
+    work[poles..end].fill(0.0);
     add_data(work, index, points, table, given, r, m, poles);
 }
 

@@ -64,7 +64,7 @@ pub fn interpolation_matrix(work: &mut [f64], index: &[usize], table: Table, ban
     let count = table.count;
     let size = count * (2 * (table.degree - 1) + 1);
     let end = band + size;
-    places::fill(work, band, size, 0.0);
+    work[band..end].fill(0.0);
     for j in 0..count {
         put_values(work, index, table, band, end, j);
     }

@@ -6,12 +6,12 @@ use Prim.Native.Nat.{ℕ, ◌+◌, ◌-◌, ◌*◌, ◌≤◌, ◌<◌}
 use native.Mathlib.Nat.{ne_of_lt, eq-or-lt_of_le}
 use native.Mathlib.Omega.{arith}
 use lib.Dec.{T}
-use lib.ListN.{length, set, length-set}
+use lib.ListN.{length, set, replicate, length-set}
 use lib.Seq.{get_or-set_same, get_or-set_other, take-set-le, drop-set-lt, ext_get_or}
 use lib.Ieee.{Float, nan, binary64, fits}
 use Rattle.places.specs.Places.{laid, list_of, joined}
 use Rattle.places.specs.Regions.{part, splice}
-use Rattle.places.proofs.PlaceLaws.{laid-at, laid_same, laid-laid, list_of-at, list_of-same, length-list_of, length-joined, joined-more, joined_same, joined_at}
+use Rattle.places.proofs.PlaceLaws.{laid-at, laid_same, laid-laid, laid_region, list_of-replicate, list_of-at, list_of-same, length-list_of, length-joined, joined-more, joined_same, joined_at}
 use Rattle.places.proofs.RegionLaws.{get_d_part, get_d_after, length_part, part-splice}
 use Rattle.geometry.specs.declared.Point.{Point}
 use Rattle.geometry.specs.Doubles.{at, nought, larger, largest}
@@ -105,6 +105,14 @@ module _ (f : Float) (t : Table) (index : List ℕ) (points : List Float) (rows 
       ∙ laid_same out t.count _ (column_largest w (i + 1)) w₁ (λ j l. rw (old j l, square-kept w w₁ x kept i j) (sym (largest-more i (λ k. row_square w k j))))
       ∙ ap (λ (v : List Float). laid out t.count (column_largest w (i + 1)) v) e₁
       ∙ laid-laid out t.count (column_largest w (i + 1)) (column_largest w i) w
+
+  -- the columns' region, cleared
+  pub rows_cleared : (w ys : List Float) → out + t.count ≤ length w → ys ≡ replicate (length (part out (out + t.count) w)) nought
+      → splice out (out + t.count) ys w ≡ laid out t.count (λ (k : ℕ). nought) w
+  rows_cleared w ys room e =
+      let long : length (part out (out + t.count) w) ≡ t.count = length_part out (out + t.count) w room ∙ omega arith in
+      ap (λ (l : List Float). splice out (out + t.count) l w) (e ∙ ap (λ (k : ℕ). replicate k nought) long ∙ sym (list_of-replicate t.count nought))
+      ∙ sym (laid_region out t.count (λ (k : ℕ). nought) w room)
 
   pub rows_start : (w₀ w : List Float) → w ≡ laid out t.count (λ (k : ℕ). nought) w₀ → w ≡ laid out t.count (column_largest w 0) w
   rows_start w₀ w e =

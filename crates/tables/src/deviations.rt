@@ -150,7 +150,7 @@ pub fn row_deviations(
     ensures { LeavesSquares table.count out out (largest_over_rows rows table.count) (row_distances factor rows (table_in table work.old index.now) m (part poles (poles + 3 * (rows * m)) work.old) points.now) work.old work.new result }
 {
     let count = table.count;
-    places::fill(work, out, count, 0.0);
+    work[out..out + count].fill(0.0);
     let mut total = Measured {
         largest: 0.0,
         unreadable: 0,

@@ -5,7 +5,7 @@
 pub mod basis_table;
 pub mod datum;
 pub mod deviations;
-pub mod rows;
+mod rows;
 
 // The data of a direction, by a number: a ladder's points, a grid's rows, or the columns of the row poles.
 pub const LADDER: usize = 0;
