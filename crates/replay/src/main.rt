@@ -6,35 +6,37 @@
 mod runs;
 
 use crate::runs::Tally;
+use std::io::Result;
+
+// The most bytes of a text, and the words that they write.
+const TEXT: usize = 524288;
+
+const WORDS: usize = TEXT / 17;
 
 // What the replay came to. A difference is told by its case's number, from 1 on.
-fn tell(tally: Tally) {
+fn tell(rt: &impl Print, tally: Tally) -> Result<()> {
     if let Some(first) = tally.first {
-        io::write_all(1, b"first different: case ");
-        io::print_decimal(1, first);
-        io::write_all(1, b"\n");
+        println!(rt; "first different: case {first}")?;
     }
-    io::print_decimal(1, tally.cases);
-    io::write_all(1, b" answers replayed, ");
-    io::print_decimal(1, tally.different);
-    io::write_all(1, b" different\n");
+    println!(rt;
+        "{} answers replayed, {} different",
+        tally.cases, tally.different
+    )
 }
 
 // Replays the list that a text writes, unless it is damaged.
 fn replay_text(text: &[u8]) -> Option<Tally> {
-    let mut words = [0u64; 30840];
+    let mut words = [0u64; WORDS];
     let count = replay_list::lines::read_lines(text, &mut words)?;
     runs::replay(&words[..count])
 }
 
-// A text that fills the buffer, whose length is no number of whole lines, is damaged.
-fn main() {
-    let mut text = [0u8; 524288];
+// A text that fills the buffer, whose length is no number of whole lines, is damaged. What cannot be written is left.
+fn main(rt: HostRuntime) {
+    let mut text = [0u8; TEXT];
     let n = io::read_full(0, &mut text);
-    match replay_text(&text[..n]) {
-        Some(tally) => tell(tally),
-        None => {
-            io::write_all(1, b"list unreadable\n");
-        }
-    }
+    let _ = match replay_text(&text[..n]) {
+        Some(tally) => tell(&rt, tally),
+        None => println!(rt; "list unreadable"),
+    };
 }

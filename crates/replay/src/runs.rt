@@ -1,6 +1,5 @@
 // Runs the calls of the list and counts the answers that differ.
-ghost use Rattle.std.specs.Prelude.{◌≡◌, ◌≤◌, length, take, get_or};
-ghost use Rattle.checks.specs.LadderChecks.{lent};
+ghost use Rattle.std.specs.Prelude.{◌≡◌, ◌≤◌, take, get_or};
 ghost use Rattle.replay_list.specs.Listed.{listed_at};
 ghost use Rattle.replay.specs.Runs.{compared, capped, needed, Fits, RanOn, TurnAt, TalliedAs};
 
@@ -8,20 +7,31 @@ use bspline::Refusal;
 use checks::Room;
 use fitting::Fit;
 use knots::Metric;
-use replay_list::Case;
 use replay_list::answers::Output;
+use replay_list::{Case, PLACES};
 
-// What the calls are lent: 3,200 places for points and for poles, 1,100 for flat knots, distinct knots and multiplicities, and the work and index of 1,066
-// points of degree 27.
+// The most points of a case, and the degree above which none asks for more.
+pub const POINTS: usize = PLACES / 3;
+
+pub const DEGREE: usize = 27;
+
+// What so many points of this degree ask.
+pub const KNOTS: usize = POINTS + DEGREE + 1;
+
+pub const WORK: usize = 4 * (DEGREE * POINTS) + 16 * POINTS + 64;
+
+pub const INDEX: usize = 4 * POINTS;
+
+// A case's places, and what is lent to the calls.
 #[derive(Drop)]
 struct Buffers {
-    points: [f64; 3200],
-    poles: [f64; 3200],
-    flat: [f64; 1100],
-    knots: [f64; 1100],
-    mults: [u32; 1100],
-    work: [f64; 132248],
-    index: [usize; 4264],
+    points: [f64; PLACES],
+    poles: [f64; PLACES],
+    flat: [f64; KNOTS],
+    knots: [f64; KNOTS],
+    mults: [u32; KNOTS],
+    work: [f64; WORK],
+    index: [usize; INDEX],
 }
 
 // One case: whether the answers are the same, and the place of the next case.
@@ -39,14 +49,14 @@ pub struct Tally {
     pub first: Option<u64>,
 }
 
-// The lengths of the slices lent for n points. A degree above 27 asks no more than 27 does.
+// The lengths of the slices lent for n points.
 fn lengths(n: usize, degree: usize, shorter: usize) -> Room
-    requires small { n ≤ 1066 }
+    requires small { n ≤ POINTS }
     requires short { shorter ≤ 1 }
     ensures value { result ≡ needed n (capped degree) shorter }
     ensures fits { Fits result }
 {
-    let p = degree.min(27);
+    let p = degree.min(DEGREE);
     let flat = n + p + 1;
     Room {
         poles: 3 * n,
@@ -153,13 +163,13 @@ pub fn replay(words: &[u64]) -> Option<Tally>
 {
     let cases = *words.first()?;
     let mut buffers = Buffers {
-        points: [0.0; 3200],
-        poles: [0.0; 3200],
-        flat: [0.0; 1100],
-        knots: [0.0; 1100],
-        mults: [0; 1100],
-        work: [0.0; 132248],
-        index: [0; 4264],
+        points: [0.0; PLACES],
+        poles: [0.0; PLACES],
+        flat: [0.0; KNOTS],
+        knots: [0.0; KNOTS],
+        mults: [0; KNOTS],
+        work: [0.0; WORK],
+        index: [0; INDEX],
     };
     replay_cases(words, cases, &mut buffers)
 }

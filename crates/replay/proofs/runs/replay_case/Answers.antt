@@ -1,5 +1,5 @@
 -- The points are the case's own places. Assumes nothing.
-use Rattle.std.proofs.Common.{take, refl, ap, ◌∙◌, inr, arith}
+use Rattle.std.proofs.Common.{take, ap, ◌∙◌, inr, arith}
 use Rattle.geometry.specs.Doubles.{nought}
 use Rattle.places.proofs.PlaceLaws.{part-laid}
 use Rattle.replay.proofs.runs.replay_case.Goals as goal
