@@ -11,16 +11,16 @@ use replay_list::answers::Output;
 use replay_list::{Case, PLACES};
 
 // The most points of a case, and the degree above which none asks for more.
-pub const POINTS: usize = PLACES / 3;
+const POINTS: usize = PLACES / 3;
 
-pub const DEGREE: usize = 27;
+const DEGREE: usize = 27;
 
 // What so many points of this degree ask.
-pub const KNOTS: usize = POINTS + DEGREE + 1;
+const KNOTS: usize = POINTS + DEGREE + 1;
 
-pub const WORK: usize = 4 * (DEGREE * POINTS) + 16 * POINTS + 64;
+const WORK: usize = 4 * (DEGREE * POINTS) + 16 * POINTS + 64;
 
-pub const INDEX: usize = 4 * POINTS;
+const INDEX: usize = 4 * POINTS;
 
 // A case's places, and what is lent to the calls.
 #[derive(Drop)]
@@ -68,25 +68,20 @@ fn lengths(n: usize, degree: usize, shorter: usize) -> Room
     }
 }
 
-// An answer beside the one whose words start at a place.
+// A case's answer beside the list's.
 #[tactic(auto, unfolding(crate::specs::Runs::compared))]
-fn compare(
-    answer: Result<Fit, Refusal>,
-    words: &[u64],
-    start: usize,
-    degree: usize,
-    output: Output,
-) -> Option<Turn>
-    ensures { result ≡ compared answer words.now start degree output.entry.poles.now output.entry.flat.now output.entry.knots.now output.entry.mults.now (listed_at words.now start degree) }
+fn compare(words: &[u64], case: Case, answer: Result<Fit, Refusal>, output: Output) -> Option<Turn>
+    ensures { result ≡ compared answer words.now case.entry.answer case.entry.degree output.entry.poles.now output.entry.flat.now output.entry.knots.now output.entry.mults.now
+        (listed_at words.now case.entry.answer case.entry.degree) }
 {
-    let turn = match replay_list::answers::listed_at(words, start, degree)? {
+    let turn = match replay_list::answers::listed_at(words, case.answer, case.degree)? {
         Ok(fit) => Turn {
             same: replay_list::answers::same_fit(answer, words, fit, output),
             next: fit.next,
         },
         Err(number) => Turn {
             same: replay_list::answers::refused_with(answer, number),
-            next: start + 1,
+            next: case.answer + 1,
         },
     };
     Some(turn)
@@ -123,7 +118,7 @@ fn run_case(words: &[u64], case: Case, buffers: &mut Buffers) -> Option<Turn>
         knots,
         mults,
     };
-    compare(answer, words, case.answer, case.degree, output)
+    compare(words, case, answer, output)
 }
 
 // Runs the case whose words start at a place.
