@@ -6,7 +6,6 @@
 mod runs;
 
 use crate::runs::Tally;
-use std::io::Result;
 
 // The most bytes of a text, and the words that they write.
 const TEXT: usize = 524288;
@@ -14,14 +13,16 @@ const TEXT: usize = 524288;
 const WORDS: usize = TEXT / 17;
 
 // What the replay came to. A difference is told by its case's number, from 1 on.
-fn tell(rt: &impl Print, tally: Tally) -> Result<()> {
+fn tell(tally: Tally) {
     if let Some(first) = tally.first {
-        println!(rt; "first different: case {first}")?;
+        io::write_all(1, b"first different: case ");
+        io::print_decimal(1, first);
+        io::write_all(1, b"\n");
     }
-    println!(rt;
-        "{} answers replayed, {} different",
-        tally.cases, tally.different
-    )
+    io::print_decimal(1, tally.cases);
+    io::write_all(1, b" answers replayed, ");
+    io::print_decimal(1, tally.different);
+    io::write_all(1, b" different\n");
 }
 
 // Replays the list that a text writes, unless it is damaged.
@@ -31,12 +32,14 @@ fn replay_text(text: &[u8]) -> Option<Tally> {
     runs::replay(&words[..count])
 }
 
-// A text that fills the buffer, whose length is no number of whole lines, is damaged. What cannot be written is left.
-fn main(rt: HostRuntime) {
+// A text that fills the buffer, whose length is no number of whole lines, is damaged.
+fn main() {
     let mut text = [0u8; TEXT];
     let n = io::read_full(0, &mut text);
-    let _ = match replay_text(&text[..n]) {
-        Some(tally) => tell(&rt, tally),
-        None => println!(rt; "list unreadable"),
-    };
+    match replay_text(&text[..n]) {
+        Some(tally) => tell(tally),
+        None => {
+            io::write_all(1, b"list unreadable\n");
+        }
+    }
 }
