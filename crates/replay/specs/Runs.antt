@@ -6,16 +6,18 @@ use Rattle.knots.specs.Parameters.{plain_metric}
 use Rattle.checks.specs.declared.Room.{Room}
 use Rattle.checks.specs.LadderChecks.{Lent}
 use Rattle.ladders.specs.Ladders.{Answer, LadderCall}
+use Rattle.replay_list.specs.declared.TheConstants.{PLACES}
 use Rattle.replay_list.specs.declared.Case.{Case}
 use Rattle.replay_list.specs.declared.answers.ListedFit.{ListedFit}
 use Rattle.replay_list.specs.Listed.{CaseAt, place_at, listed_at}
 use Rattle.replay_list.specs.Compared.{refused_with, same_fit}
+use Rattle.replay.specs.declared.runs.TheConstants.{DEGREE, KNOTS, WORK, INDEX}
 use Rattle.replay.specs.declared.runs.Turn.{Turn}
 use Rattle.replay.specs.declared.runs.Tally.{Tally}
 
--- a degree, and 27 for a higher one
+-- a degree, and the highest that asks for more in the place of a higher one
 abbrev pub capped : ℕ → ℕ
-capped degree = min degree 27
+capped degree = min degree DEGREE
 
 -- the lengths that a call on n points asks, the work's by so much less
 abbrev pub needed : ℕ → ℕ → ℕ → Room
@@ -30,12 +32,12 @@ needed n p shorter = record {
 
 -- the room that the program has
 pub record Fits (r : Room) : Type 0 where
-  pub for_poles : r.poles ≤ 3200
-  pub for_flat : r.flat ≤ 1100
-  pub for_knots : r.knots ≤ 1100
-  pub for_mults : r.mults ≤ 1100
-  pub for_work : r.work ≤ 132248
-  pub for_index : r.index ≤ 4264
+  pub for_poles : r.poles ≤ PLACES
+  pub for_flat : r.flat ≤ KNOTS
+  pub for_knots : r.knots ≤ KNOTS
+  pub for_mults : r.mults ≤ KNOTS
+  pub for_work : r.work ≤ WORK
+  pub for_index : r.index ≤ INDEX
 
 -- one case: whether the answers are the same, and where the next stands
 abbrev pub turn : Bool → ℕ → Turn

@@ -7,6 +7,11 @@ mod runs;
 
 use crate::runs::Tally;
 
+// The most bytes of a text, and the words that they write.
+const TEXT: usize = 524288;
+
+const WORDS: usize = TEXT / 17;
+
 // What the replay came to. A difference is told by its case's number, from 1 on.
 fn tell(tally: Tally) {
     if let Some(first) = tally.first {
@@ -22,14 +27,14 @@ fn tell(tally: Tally) {
 
 // Replays the list that a text writes, unless it is damaged.
 fn replay_text(text: &[u8]) -> Option<Tally> {
-    let mut words = [0u64; 30840];
+    let mut words = [0u64; WORDS];
     let count = replay_list::lines::read_lines(text, &mut words)?;
     runs::replay(&words[..count])
 }
 
 // A text that fills the buffer, whose length is no number of whole lines, is damaged.
 fn main() {
-    let mut text = [0u8; 524288];
+    let mut text = [0u8; TEXT];
     let n = io::read_full(0, &mut text);
     match replay_text(&text[..n]) {
         Some(tally) => tell(tally),

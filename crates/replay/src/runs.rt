@@ -1,6 +1,5 @@
 // Runs the calls of the list and counts the answers that differ.
-ghost use Rattle.std.specs.Prelude.{◌≡◌, ◌≤◌, length, take, get_or};
-ghost use Rattle.checks.specs.LadderChecks.{lent};
+ghost use Rattle.std.specs.Prelude.{◌≡◌, ◌≤◌, take, get_or};
 ghost use Rattle.replay_list.specs.Listed.{listed_at};
 ghost use Rattle.replay.specs.Runs.{compared, capped, needed, Fits, RanOn, TurnAt, TalliedAs};
 
@@ -8,20 +7,31 @@ use bspline::Refusal;
 use checks::Room;
 use fitting::Fit;
 use knots::Metric;
-use replay_list::Case;
 use replay_list::answers::Output;
+use replay_list::{Case, PLACES};
 
-// What the calls are lent: 3,200 places for points and for poles, 1,100 for flat knots, distinct knots and multiplicities, and the work and index of 1,066
-// points of degree 27.
+// The most points of a case, and the degree above which none asks for more.
+const POINTS: usize = PLACES / 3;
+
+const DEGREE: usize = 27;
+
+// What so many points of this degree ask.
+const KNOTS: usize = POINTS + DEGREE + 1;
+
+const WORK: usize = 4 * (DEGREE * POINTS) + 16 * POINTS + 64;
+
+const INDEX: usize = 4 * POINTS;
+
+// A case's places, and what is lent to the calls.
 #[derive(Drop)]
 struct Buffers {
-    points: [f64; 3200],
-    poles: [f64; 3200],
-    flat: [f64; 1100],
-    knots: [f64; 1100],
-    mults: [u32; 1100],
-    work: [f64; 132248],
-    index: [usize; 4264],
+    points: [f64; PLACES],
+    poles: [f64; PLACES],
+    flat: [f64; KNOTS],
+    knots: [f64; KNOTS],
+    mults: [u32; KNOTS],
+    work: [f64; WORK],
+    index: [usize; INDEX],
 }
 
 // One case: whether the answers are the same, and the place of the next case.
@@ -39,14 +49,14 @@ pub struct Tally {
     pub first: Option<u64>,
 }
 
-// The lengths of the slices lent for n points. A degree above 27 asks no more than 27 does.
+// The lengths of the slices lent for n points.
 fn lengths(n: usize, degree: usize, shorter: usize) -> Room
-    requires small { n ≤ 1066 }
+    requires small { n ≤ POINTS }
     requires short { shorter ≤ 1 }
     ensures value { result ≡ needed n (capped degree) shorter }
     ensures fits { Fits result }
 {
-    let p = degree.min(27);
+    let p = degree.min(DEGREE);
     let flat = n + p + 1;
     Room {
         poles: 3 * n,
@@ -58,25 +68,20 @@ fn lengths(n: usize, degree: usize, shorter: usize) -> Room
     }
 }
 
-// An answer beside the one whose words start at a place.
+// A case's answer beside the list's.
 #[tactic(auto, unfolding(crate::specs::Runs::compared))]
-fn compare(
-    answer: Result<Fit, Refusal>,
-    words: &[u64],
-    start: usize,
-    degree: usize,
-    output: Output,
-) -> Option<Turn>
-    ensures { result ≡ compared answer words.now start degree output.entry.poles.now output.entry.flat.now output.entry.knots.now output.entry.mults.now (listed_at words.now start degree) }
+fn compare(words: &[u64], case: Case, answer: Result<Fit, Refusal>, output: Output) -> Option<Turn>
+    ensures { result ≡ compared answer words.now case.entry.answer case.entry.degree output.entry.poles.now output.entry.flat.now output.entry.knots.now output.entry.mults.now
+        (listed_at words.now case.entry.answer case.entry.degree) }
 {
-    let turn = match replay_list::answers::listed_at(words, start, degree)? {
+    let turn = match replay_list::answers::listed_at(words, case.answer, case.degree)? {
         Ok(fit) => Turn {
             same: replay_list::answers::same_fit(answer, words, fit, output),
             next: fit.next,
         },
         Err(number) => Turn {
             same: replay_list::answers::refused_with(answer, number),
-            next: start + 1,
+            next: case.answer + 1,
         },
     };
     Some(turn)
@@ -113,7 +118,7 @@ fn run_case(words: &[u64], case: Case, buffers: &mut Buffers) -> Option<Turn>
         knots,
         mults,
     };
-    compare(answer, words, case.answer, case.degree, output)
+    compare(words, case, answer, output)
 }
 
 // Runs the case whose words start at a place.
@@ -153,13 +158,13 @@ pub fn replay(words: &[u64]) -> Option<Tally>
 {
     let cases = *words.first()?;
     let mut buffers = Buffers {
-        points: [0.0; 3200],
-        poles: [0.0; 3200],
-        flat: [0.0; 1100],
-        knots: [0.0; 1100],
-        mults: [0; 1100],
-        work: [0.0; 132248],
-        index: [0; 4264],
+        points: [0.0; PLACES],
+        poles: [0.0; PLACES],
+        flat: [0.0; KNOTS],
+        knots: [0.0; KNOTS],
+        mults: [0; KNOTS],
+        work: [0.0; WORK],
+        index: [0; INDEX],
     };
     replay_cases(words, cases, &mut buffers)
 }

@@ -5,6 +5,7 @@ use Rattle.std.specs.Float.Ieee.{of_bits}
 use Rattle.knots.specs.Parameters.{spacing_of}
 use Rattle.checks.specs.declared.Call.{Call}
 use Rattle.checks.specs.declared.Call.TheVariants.{Interpolate, Approximate, ApproximateWithin, SearchSpread}
+use Rattle.replay_list.specs.declared.TheConstants.{PLACES}
 use Rattle.replay_list.specs.declared.Case.{Case}
 use Rattle.replay_list.specs.declared.answers.ListedFit.{ListedFit}
 
@@ -16,12 +17,12 @@ call_of entry count tolerance =
     (cond (eqb entry 2) (Some (ApproximateWithin (of_bits binary64 tolerance)))
     (cond (eqb entry 3) (Some (SearchSpread (of_bits binary64 tolerance))) None)))
 
--- the words from a on are a case's: at most 3,200 places, and some given where there are some
+-- the words from a on are a case's: no more than the most places, and some given where there are some
 pub record IsCase (w : List ℕ) (a : ℕ) : Type 0 where
   pub entry : get_or w a 0 ≤ 3
-  pub few : get_or w (a + 5) 0 ≤ 3200
+  pub few : get_or w (a + 5) 0 ≤ PLACES
   pub no_more : get_or w (a + 6) 0 ≤ get_or w (a + 5) 0
-  pub some : get_or w (a + 5) 0 ≤ 3200 * get_or w (a + 6) 0
+  pub some : 0 < get_or w (a + 5) 0 → 0 < get_or w (a + 6) 0
   pub short : get_or w (a + 7) 0 ≤ 1
   pub within : a + 8 + get_or w (a + 6) 0 ≤ length w
 

@@ -4,7 +4,7 @@ ghost use Rattle.std.specs.Prelude.{◌≡◌, ◌≤◌, length};
 ghost use Rattle.places.specs.Places.{laid};
 ghost use Rattle.replay_list.specs.Listed.{call_of, FoundAt, place_at};
 
-use crate::Case;
+use crate::{Case, PLACES};
 use checks::Call;
 use knots::Spacing;
 
@@ -43,7 +43,7 @@ pub fn case_at(words: &[u64], start: usize) -> Option<Case<'_>>
     let count = *count as usize;
     let given = rest.get(..*given as usize)?;
     let shorter = *shorter as usize;
-    if count > 3200 || given.len() > count || count > 3200 * given.len() || shorter > 1 {
+    if count > PLACES || given.len() > count || given.is_empty() && count > 0 || shorter > 1 {
         return None;
     }
     Some(Case {
@@ -60,10 +60,10 @@ pub fn case_at(words: &[u64], start: usize) -> Option<Case<'_>>
 // Lays a case's places from the first place on.
 #[tactic(auto, using(crate::proofs::Loops::laying))]
 pub fn lay_places(case: Case, points: &mut [f64])
-    requires { 3200 ≤ length points.old }
+    requires { PLACES ≤ length points.old }
     ensures { points.new ≡ laid 0 case.entry.count (place_at case.entry.given.now) points.old }
 {
-    for k in 0..case.count {
-        points[k] = card_text::from_word(case.given[k.min(case.given.len() - 1)]);
+    for (k, x) in points[..case.count].iter_mut().enumerate() {
+        *x = card_text::from_word(case.given[k.min(case.given.len() - 1)]);
     }
 }

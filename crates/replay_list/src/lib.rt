@@ -6,10 +6,14 @@ pub mod cases;
 pub mod lines;
 pub mod values;
 
-ghost use Rattle.std.specs.Prelude.{◌*◌, ◌≤◌, length};
+ghost use Rattle.std.specs.Prelude.{◌<◌, ◌≤◌, length};
+ghost use Rattle.replay_list.specs.declared.TheConstants.{PLACES};
 
 use checks::Call;
 use knots::Spacing;
+
+// The most places that a case has.
+pub const PLACES: usize = 3200;
 
 // A call of the list on `count` places. The words of the first of them are given, and the others repeat the last of these. The work is `shorter` places too
 // short, and the words of the answer start at `answer`.
@@ -22,8 +26,8 @@ pub struct Case<'a> {
     pub given: &'a [u64],
     pub shorter: usize,
     pub answer: usize,
-    pub ghost few: { count ≤ 3200 },
+    pub ghost few: { count ≤ PLACES },
     pub ghost no_more: { length given.now ≤ count },
-    pub ghost some: { count ≤ 3200 * length given.now },
+    pub ghost some: { 0 < count → 0 < length given.now },
     pub ghost short: { shorter ≤ 1 },
 }

@@ -5,4 +5,4 @@ use Rattle.replay_list.specs.Listed.{place_at}
 use Rattle.replay_list.proofs.cases.lay_places.Given as goal
 
 abbrev pub invariant-loop-k : goal.invariant-loop-k
-invariant-loop-k l = l.points ≡ laid 0 l.k (place_at l.case.given.now) l.initial.points
+invariant-loop-k l = l.x-items ≡ laid 0 l.k (place_at l.case.given.now) l.initial.x-items
