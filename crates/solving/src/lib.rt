@@ -1,5 +1,4 @@
-// Least squares and interpolation over a basis table, for ladders, rows and columns: document 01, part 3 (`least_squares`, `interpolation`). Everything stands
-// in regions of two lent slices, `work` and `index`.
+// Least squares and interpolation over a basis table, for ladders, rows and columns: document 01, part 3 (`least_squares`, `interpolation`).
 #![tactic(auto)]
 
 pub mod squares;

@@ -1,16 +1,15 @@
 -- What is made of distances as they are found, one after the other. Definitions only.
 use Rattle.std.specs.Prelude.{◌≡◌, cond, List, ℕ, ◌+◌, ◌*◌, ◌≤◌, length, Float}
 use Rattle.std.specs.Float.Ieee.{is_nan}
-use Rattle.places.specs.Regions.{part}
 use Rattle.geometry.specs.Doubles.{larger, largest}
 use Rattle.geometry.specs.Points.{squared_distance, point_at, points_of}
 use Rattle.geometry.specs.Root.{sqrt_of, roots_of}
 use Rattle.tables.specs.declared.Measured.{Measured}
-use Rattle.tables.specs.declared.Table.{Table}
+use Rattle.tables.specs.declared.basis_table.Table.{Table}
+use Rattle.tables.specs.declared.deviations.Beside.{Beside}
 use Rattle.tables.specs.BasisTable.{BasisTable, table_point}
-use Rattle.tables.specs.Deviations.{grid_distances, unreadable}
-use Rattle.tables.specs.Directions.{transposed}
-use Rattle.tables.specs.Layout.{table_in, Kept, HasTable, HasFit}
+use Rattle.tables.specs.Deviations.{unreadable}
+use Rattle.tables.specs.Layout.{table_of, HasTable}
 
 -- the largest, and how many are NaN
 unfoldable pub measured : List Float → Measured
@@ -30,29 +29,49 @@ with_square m s = record { largest = larger m.largest s; unreadable = m.unreadab
 unfoldable pub rooted : Measured → Measured
 rooted m = record { largest = sqrt_of m.largest; unreadable = m.unreadable }
 
--- What is made of the distances ds of n parameters' points: their measures; from `out` on, for each parameter the square of its deviation (its root is the
--- deviation); and all else as it was, but for places from `from` on.
-pub record LeavesSquares (n from out : ℕ) (deviations_of : List Float → List Float) (ds w w' : List Float) (r : Measured) : Type 0 where
+-- What is made of the distances ds: their measures r, and for each parameter the square of its deviation (its root is the deviation).
+pub record LeavesSquares (deviations_of : List Float → List Float) (ds squares : List Float) (r : Measured) : Type 0 where
   pub measures : r ≡ measured ds
-  pub deviations : roots_of (part out (out + n) w') ≡ deviations_of ds
-  pub kept : Kept from (out + n) w w'
+  pub deviations : roots_of squares ≡ deviations_of ds
 
--- point j of row i of s, `cols` points a row: the square of its distance from the row's own m poles
-abbrev pub square_from_line : Float → BasisTable → ℕ → List Float → List Float → ℕ → ℕ → ℕ → Float
-square_from_line f t m poles s cols i j = squared_distance f (table_point t poles (i * m) j) (point_at s (i * cols + j))
+-- the square of a line's distance at parameter k
+abbrev pub square_beside : Beside → ℕ → Float
+square_beside b k = squared_distance b.factor (table_point (table_of b.table.now) b.poles.now b.start k) (point_at b.points.now (b.first + k))
 
 -- the poles of the v curve at u parameter i, of columns' poles that stand line after line, m to a column
 abbrev pub curve_of : BasisTable → ℕ → ℕ → List Float → ℕ → List Float
 curve_of u columns m poles i = points_of columns (λ l. table_point u poles (l * m) i)
 
--- A surface's u table with the poles of its columns, and its v table, before the places of a curve's poles; the deviations' squares stand behind these.
-pub record HasGrid (u v : Table) (columns m poles curve out : ℕ) (points work : List Float) (index : List ℕ) : Type 0 where
-  pub fit : HasFit u columns m poles curve (3 * columns + u.count) work index
-  pub across : HasTable v columns work index
-  pub across_before : v.values + v.count * (v.degree + 1) ≤ curve
-  pub behind : out ≡ curve + 3 * columns
-  pub given : 3 * (u.count * v.count) ≤ length points
+-- the curve's poles and the line's points lie in the lists
+pub record HasBeside (b : Beside) : Type 0 where
+  pub table : HasTable b.table.now
+  pub poles_inside : 3 * (b.start + b.table.now.poles) ≤ length b.poles.now
+  pub points_inside : 3 * (b.first + length b.table.now.firsts.now) ≤ length b.points.now
 
-abbrev pub grid_distances_in : Float → Table → Table → ℕ → ℕ → ℕ → List Float → List Float → List ℕ → List Float
-grid_distances_in f u v columns m poles points work index =
-    grid_distances f (table_in u work index) (table_in v work index) columns (transposed columns m (part poles (poles + 3 * (columns * m)) work)) points
+-- so many places of one curve's poles, of squares, and of as many points
+pub record HasLadder (t : Table) (poles squares points : ℕ) : Type 0 where
+  pub table : HasTable t
+  pub for_poles : 3 * t.poles ≤ poles
+  pub for_squares : squares ≡ length t.firsts.now
+  pub for_points : 3 * length t.firsts.now ≤ points
+
+-- the same of a grid's rows
+pub record HasRows (t : Table) (rows poles squares points : ℕ) : Type 0 where
+  pub table : HasTable t
+  pub few : rows ≤ 64
+  pub for_poles : 3 * (rows * t.poles) ≤ poles
+  pub for_squares : squares ≡ length t.firsts.now
+  pub for_points : 3 * (rows * length t.firsts.now) ≤ points
+
+-- the poles of so many columns, over u's table
+pub record HasColumns (u : Table) (columns poles : ℕ) : Type 0 where
+  pub table : HasTable u
+  pub for_poles : 3 * (columns * u.poles) ≤ poles
+
+-- A surface's u table with the poles of its columns, as many as v's table has poles; places for a curve's poles and for the squares; and the grid's points.
+pub record HasGrid (u v : Table) (poles curve squares points : ℕ) : Type 0 where
+  pub columns : HasColumns u v.poles poles
+  pub across : HasTable v
+  pub for_curve : curve ≡ 3 * v.poles
+  pub for_squares : squares ≡ length u.firsts.now
+  pub for_points : 3 * (length u.firsts.now * length v.firsts.now) ≤ points

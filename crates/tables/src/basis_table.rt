@@ -1,11 +1,9 @@
-// The table of the basis functions at rising parameters (`BasisTable::new`): knots, parameters and values stand in one buffer, the values last.
+// The basis functions that are not zero at each of rising parameters, found once for every line of data (`BasisTable`).
 ghost use Rattle.std.specs.Prelude.{◌≡◌, ◌+◌, ◌*◌, ◌≤◌, length};
-ghost use Rattle.places.specs.Regions.{part, splice};
 ghost use Rattle.tables.specs.BasisTable.{basis_table};
-ghost use Rattle.tables.specs.Layout.{FillsTable};
 
-use crate::Table;
 use crate::rows::BasisRows;
+use geometry::Point;
 
 // The rows of the table, one a parameter: the search for the span of a parameter goes on from that of the one before.
 fn fill_rows(flat: &[f64], degree: usize, params: &[f64], firsts: &mut [usize], values: &mut [f64])
@@ -20,27 +18,68 @@ fn fill_rows(flat: &[f64], degree: usize, params: &[f64], firsts: &mut [usize], 
     }
 }
 
-// The table of the flat knots work[flat..end] at the parameters from place `params` on, in the places that it names.
-pub fn fill_table(
-    work: &mut [f64],
-    index: &mut [usize],
-    table: Table,
-    flat: usize,
-    end: usize,
-    params: usize,
-)
-    requires { FillsTable table flat end params work.old index.old }
-    ensures index_after { index.new ≡ splice table.firsts (table.firsts + table.count)
-        (basis_table (part flat end work.old) table.degree (part params (params + table.count) work.old)).firsts index.old }
-    ensures work_after { work.new ≡ splice table.values (table.values + table.count * (table.degree + 1))
-        (basis_table (part flat end work.old) table.degree (part params (params + table.count) work.old)).values work.old }
-{
-    let (given, values) = work.split_at_mut(table.values);
-    fill_rows(
-        &given[flat..end],
-        table.degree,
-        &given[params..params + table.count],
-        &mut index[table.firsts..table.firsts + table.count],
-        &mut values[..table.count * (table.degree + 1)],
-    );
+// The table of knots with so many poles: for each parameter the first pole whose basis function is not zero there, and, one row after the other, the
+// degree + 1 values from that pole on.
+#[derive(Drop)]
+pub struct Table<'a> {
+    pub degree: usize,
+    pub poles: usize,
+    pub firsts: &'a mut [usize],
+    pub values: &'a mut [f64],
+}
+
+// Row k: the first pole, and its values.
+#[derive(Clone, Copy)]
+pub struct Row<'a> {
+    pub degree: usize,
+    pub first: usize,
+    pub values: &'a [f64],
+    pub ghost low: { degree ≤ 25 },
+    pub ghost long: { length values.now ≡ degree + 1 },
+}
+
+impl Table<'_> {
+    ghost use Rattle.std.specs.Prelude.{◌≡◌, ◌+◌, ◌*◌, ◌≤◌, ◌<◌, length, get_or};
+    ghost use Rattle.places.specs.Regions.{part};
+    ghost use Rattle.tables.specs.BasisTable.{table_point};
+    ghost use Rattle.tables.specs.Layout.{table_of, HasTable, FillsTable, Filled};
+
+    // The table of these flat knots at these parameters, in its place.
+    pub fn fill(&mut self, flat: &[f64], params: &[f64])
+        requires { FillsTable self.old flat.now params.now }
+        ensures { Filled self.old self.new flat.now params.now }
+    {
+        let degree = self.degree;
+        self.poles = flat.len() - degree - 1;
+        fill_rows(flat, degree, params, self.firsts, self.values);
+    }
+
+    // How many parameters it has.
+    pub fn count(&self) -> usize
+        ensures { result ≡ length self.now.firsts.now }
+    {
+        self.firsts.len()
+    }
+
+    pub fn row(&self, k: usize) -> Row<'_>
+        requires { HasTable self.now × (k < length self.now.firsts.now) }
+        ensures place { (result.degree ≡ self.now.degree) × (result.first ≡ get_or self.now.firsts.now k 0) }
+        ensures values { result.values.now ≡ part (k * (self.now.degree + 1)) (k * (self.now.degree + 1) + (self.now.degree + 1)) self.now.values.now }
+    {
+        let width = self.degree + 1;
+        Row {
+            degree: self.degree,
+            first: self.firsts[k],
+            values: &self.values[k * width..k * width + width],
+        }
+    }
+
+    // The point at parameter k of the curve whose poles stand in the list from pole `start` on (`BasisTable::point`).
+    pub fn point(&self, poles: &[f64], start: usize, k: usize) -> Point
+        requires { HasTable self.now × (k < length self.now.firsts.now) × (3 * (start + self.now.poles) ≤ length poles.now) }
+        ensures { result ≡ table_point (table_of self.now) poles.now start k }
+    {
+        let row = self.row(k);
+        bspline::reader::pole_sum(row.values, poles, start + row.first, row.degree + 1)
+    }
 }

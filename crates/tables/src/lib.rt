@@ -1,42 +1,65 @@
-// Basis tables and deviations, for ladders, rows and columns: document 01, part 3 (`BasisTable`) and part 4 (`row_deviations`, `deviations`). Everything
-// stands in regions of two lent slices, `work` and `index`.
+// Basis tables and deviations, for ladders, rows and columns: document 01, part 3 (`BasisTable`) and part 4 (`row_deviations`, `deviations`).
 #![tactic(auto)]
 
 pub mod basis_table;
-pub mod datum;
 pub mod deviations;
 mod rows;
 
-// The data of a direction, by a number: a ladder's points, a grid's rows, or the columns of the row poles.
-pub const LADDER: usize = 0;
-
-pub const ROWS: usize = 1;
-
-pub const COLUMNS: usize = 2;
-
-// Where a basis table stands: `count` first poles in the index from place `firsts` on, and `count` rows of degree + 1 values in the work from `values` on.
-#[derive(Clone, Copy)]
-pub struct Table {
-    pub degree: usize,
-    pub count: usize,
-    pub firsts: usize,
-    pub values: usize,
-}
-
-// Lines of data: their kind and number, how many points stand across, and for columns the places in the work from `start` to `end` - 1 where the row poles
-// stand.
-#[derive(Clone, Copy)]
-pub struct Data {
-    pub kind: usize,
-    pub lines: usize,
-    pub across: usize,
-    pub start: usize,
-    pub end: usize,
-}
-
-// What is made of distances: the largest, folded from 0 with NaN passed over, and how many are NaN.
+// What is made of distances: the largest, folded from 0 with NaN passed over, and how many are NaN. It is found of their squares, and a root is taken of the
+// largest alone.
 #[derive(Clone, Copy)]
 pub struct Measured {
     pub largest: f64,
     pub unreadable: usize,
+}
+
+impl Measured {
+    ghost use Rattle.std.specs.Prelude.{◌≡◌, [], ◌+◌, ◌^◌, ◌<◌};
+    ghost use Rattle.tables.specs.Measures.{squares_measured, with_all, with_square, rooted};
+
+    // No distance yet.
+    pub fn none() -> Measured
+        ensures { result ≡ squares_measured [] }
+    {
+        Measured {
+            largest: 0.0,
+            unreadable: 0,
+        }
+    }
+
+    // With those of another list after its own.
+    pub fn with_all(self, other: Measured) -> Measured
+        requires { self.unreadable + other.unreadable < 2 ^ 64 }
+        ensures { result ≡ with_all self other }
+    {
+        Measured {
+            largest: geometry::doubles::max(self.largest, other.largest),
+            unreadable: self.unreadable + other.unreadable,
+        }
+    }
+
+    // With one square of a distance more: one that has no root is passed over by the largest, and counted.
+    pub fn with_square(self, s: f64) -> Measured
+        requires { self.unreadable + 1 < 2 ^ 64 }
+        ensures { result ≡ with_square self s }
+    {
+        Measured {
+            largest: geometry::doubles::max(self.largest, s),
+            unreadable: if 0.0 <= s {
+                self.unreadable
+            } else {
+                self.unreadable + 1
+            },
+        }
+    }
+
+    // The measures of the distances themselves.
+    pub fn rooted(self) -> Measured
+        ensures { result ≡ rooted self }
+    {
+        Measured {
+            largest: geometry::root::sqrt(self.largest),
+            unreadable: self.unreadable,
+        }
+    }
 }
