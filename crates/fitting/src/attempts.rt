@@ -1,86 +1,109 @@
-// Single fits of a direction: least squares on given or on spread knots, and interpolation. All stands in the job's regions of the lent slices.
-ghost use Rattle.std.specs.Prelude.{◌≤◌, ◌<◌};
-ghost use Rattle.tables.specs.Layout.{HasTable};
-ghost use Rattle.fitting.specs.Jobs.{HasJob, HasKnots, Measures, Attempts, AttemptsSpread, PassesThrough};
+// Single fits of a direction: least squares on given or on spread knots, and interpolation.
+ghost use Rattle.std.specs.Prelude.{◌≤◌, ◌<◌, length};
+ghost use Rattle.fitting.specs.Jobs.{HasRegions, HasKnots, Attempts, AttemptsSpread, PassesThrough};
 
-use crate::Job;
+use crate::flat::FlatKnots;
+use crate::room::{Fitted, Regions};
+use crate::{Job, Kind};
+use knots::lines::Lines;
+use solving::squares::least_squares;
+use solving::through::interpolation;
 use tables::Measured;
 use tables::deviations::{grid_deviations, ladder_deviations, row_deviations};
 
-// The points against the fit of m poles a line that stands in the work: the square of each parameter's deviation in its place, by the kind of the data.
-fn measure(work: &mut [f64], index: &[usize], points: &[f64], job: Job, m: usize) -> Measured
-    requires { HasJob job points.now work.old index.now × (HasTable job.table m work.old index.now × (m ≤ job.table.count)) }
-    ensures { Measures job points.now m work.old work.new index.now result }
-{
-    let table = job.table;
-    let given = job.given;
-    let poles = job.poles;
-    let out = job.deviations;
-    if given.kind == tables::LADDER {
-        return ladder_deviations(work, index, points, job.factor, table, m, poles, out);
+impl Fitted<'_> {
+    ghost use Rattle.std.specs.Prelude.{◌≡◌, ◌+◌, ◌*◌, ◌≤◌, length};
+    ghost use Rattle.tables.specs.Layout.{FillsTable, Filled};
+    ghost use Rattle.fitting.specs.Flat.{flat_of};
+    ghost use Rattle.fitting.specs.Solves.{HasLines, Solved, Passed};
+
+    // The table of these knots.
+    fn fill(&mut self, knots: &FlatKnots, params: &[f64])
+        requires { FillsTable self.old.table (flat_of knots.now) params.now × (knots.now.count ≤ length knots.now.places.now) }
+        ensures filled { Filled self.old.table self.new.table (flat_of knots.now) params.now }
+        ensures poles_after { self.new.poles.now ≡ self.old.poles.now }
+    {
+        self.table.fill(&knots.places[..knots.count], params);
     }
-    let lines = given.lines;
-    if given.kind == tables::ROWS {
-        return row_deviations(work, index, points, job.factor, table, lines, m, poles, out);
+
+    // Its least-squares poles; whether there are any.
+    fn solve(&mut self, lines: Lines, band: &mut [f64]) -> bool
+        requires { HasLines self.old lines (length band.old) }
+        ensures { Solved self.old self.new lines.entry result }
+    {
+        let m = self.table.poles;
+        let size = m * (self.table.degree + 1);
+        let places = 3 * (lines.lines * m);
+        least_squares(&self.table, lines, &mut band[..size], &mut self.poles[..places])
     }
-    grid_deviations(
-        work, index, points, job.factor, table, job.other, lines, m, poles, job.curve, out,
-    )
+
+    // Its poles through the points.
+    fn pass(&mut self, lines: Lines, band: &mut [f64])
+        requires has_lines { HasLines self.old lines (length band.old) }
+        requires as_many { self.old.table.poles ≡ length self.old.table.firsts.now }
+        ensures { Passed self.old self.new lines.entry }
+    {
+        let n = self.table.poles;
+        let size = n * (2 * (self.table.degree - 1) + 1);
+        let places = 3 * (lines.lines * n);
+        interpolation(&self.table, lines, &mut band[..size], &mut self.poles[..places]);
+    }
 }
 
-// Least squares on the l flat knots that stand in the work: the fit in its place, or none.
-pub fn attempt(
-    work: &mut [f64],
-    index: &mut [usize],
-    points: &[f64],
-    job: Job,
-    l: usize,
-) -> Option<Measured>
-    requires { HasJob job points.now work.old index.old × HasKnots job l }
-    ensures { Attempts job points.now l work.old work.new index.old index.new result }
+impl Job<'_, '_> {
+    ghost use Rattle.std.specs.Prelude.{length};
+    ghost use Rattle.tables.specs.Measures.{LeavesSquares};
+    ghost use Rattle.fitting.specs.Solves.{HasFit};
+    ghost use Rattle.fitting.specs.Jobs.{direction_of, distances_on};
+
+    // The points against a fit: the square of each parameter's deviation in its place.
+    fn measure(self, fit: &Fitted, curve: &mut [f64], squares: &mut [f64]) -> Measured
+        requires { HasFit self fit.now (length curve.old) (length squares.old) }
+        ensures { LeavesSquares (direction_of self.entry).deviations (distances_on self.entry fit.now) squares.new result }
+    {
+        let table = &fit.table;
+        let poles = &fit.poles[..3 * (self.lines.lines * table.poles)];
+        let points = self.lines.points;
+        match self.kind {
+            Kind::Ladder => ladder_deviations(points, self.factor, table, poles, squares),
+            Kind::Rows => {
+                row_deviations(points, self.factor, table, self.lines.lines, poles, squares)
+            }
+            Kind::Columns(s) => {
+                grid_deviations(s.points, self.factor, table, s.across, poles, curve, squares)
+            }
+        }
+    }
+}
+
+// Least squares on the flat knots that stand there: the fit in its place, or none.
+pub fn attempt(job: Job, at: &mut Regions) -> Option<Measured>
+    requires { HasRegions job at.old × HasKnots job at.old.knots.count }
+    ensures { Attempts job.entry at.old at.new result }
 {
-    let table = job.table;
-    let m = l - table.degree - 1;
-    tables::basis_table::fill_table(work, index, table, job.flat, job.flat + l, job.params);
-    if !solving::squares::least_squares(
-        work, index, points, table, job.given, m, job.band, job.poles,
-    ) {
+    at.fit.fill(&at.knots, job.params);
+    if !at.fit.solve(job.lines, at.band) {
         return None;
     }
-    Some(measure(work, index, points, job, m))
+    Some(job.measure(&at.fit, at.curve, at.squares))
 }
 
 // Least squares on the spread knots of m poles.
-pub fn attempt_spread(
-    work: &mut [f64],
-    index: &mut [usize],
-    points: &[f64],
-    job: Job,
-    m: usize,
-) -> Option<Measured>
-    requires { HasJob job points.now work.old index.old × (job.table.degree < m) × (m ≤ job.table.count) }
-    ensures { AttemptsSpread job points.now m work.old work.new index.old index.new result }
+pub fn attempt_spread(job: Job, at: &mut Regions, m: usize) -> Option<Measured>
+    requires { HasRegions job at.old × (job.degree < m) × (m ≤ length job.params.now) }
+    ensures { AttemptsSpread job.entry m at.new result }
 {
-    let table = job.table;
-    let l = m + table.degree + 1;
-    let (head, tail) = work.split_at_mut(job.flat);
-    let params = &head[job.params..job.params + table.count];
-    knots::clamped::approximation_knots(params, m, table.degree, &mut tail[..l]);
-    attempt(work, index, points, job, l)
+    at.knots.lay_spread(job.params, m, job.degree);
+    attempt(job, at)
 }
 
 // Interpolation on averaged knots.
-pub fn pass_through(work: &mut [f64], index: &mut [usize], points: &[f64], job: Job) -> Measured
-    requires { HasJob job points.now work.old index.old }
-    ensures { PassesThrough job points.now work.old work.new index.old index.new result }
+pub fn pass_through(job: Job, at: &mut Regions) -> Measured
+    requires { HasRegions job at.old }
+    ensures { PassesThrough job.entry at.new result }
 {
-    let table = job.table;
-    let n = table.count;
-    let l = n + table.degree + 1;
-    let (head, tail) = work.split_at_mut(job.flat);
-    let params = &head[job.params..job.params + n];
-    knots::clamped::averaged_knots(params, table.degree, &mut tail[..l]);
-    tables::basis_table::fill_table(work, index, table, job.flat, job.flat + l, job.params);
-    solving::through::interpolation(work, index, points, table, job.given, job.band, job.poles);
-    measure(work, index, points, job, n)
+    at.knots.lay_averaged(job.params, job.degree);
+    at.fit.fill(&at.knots, job.params);
+    at.fit.pass(job.lines, at.band);
+    job.measure(&at.fit, at.curve, at.squares)
 }

@@ -3,12 +3,16 @@
 
 pub mod attempts;
 pub mod counts;
+pub mod flat;
 pub mod refining;
+pub mod room;
 
 ghost use Rattle.std.specs.Prelude.{◌≡◌};
+ghost use Rattle.fitting.specs.Given.{HasJob};
 ghost use Rattle.fitting.specs.Marks.{largest_deviation, mark_number};
 
-use tables::{Data, Measured, Table};
+use knots::lines::Lines;
+use tables::basis_table::Table;
 
 // Which step gave the knots and poles that are handed out, with the largest computed deviation: document 01's refined, spread, interpolated and chosen.
 #[derive(Clone, Copy, Debug, PartialEq)]
@@ -51,26 +55,29 @@ pub struct Fit {
     pub unreadable: usize,
 }
 
-// The fitting of one direction in the lent slices: its table and data, for columns the table of the other direction, the lightness factor of its
-// distances, and where the work holds its parameters, its flat knots, the band, the poles, for columns a curve's poles, the deviations by their squares, and new knots.
+// A grid's points, and v's table: the poles of a fit of the columns make a surface over it.
 #[derive(Clone, Copy)]
-pub struct Job {
-    pub table: Table,
-    pub given: Data,
-    pub other: Table,
-    pub factor: f64,
-    pub params: usize,
-    pub flat: usize,
-    pub band: usize,
-    pub poles: usize,
-    pub curve: usize,
-    pub deviations: usize,
-    pub fresh: usize,
+pub struct Surface<'a, 'b> {
+    pub points: &'a [f64],
+    pub across: &'a Table<'b>,
 }
 
-// A fit that met the tolerance: on how many flat knots, and what its distances measure.
+// What the lines of a direction are: a ladder's points; a grid's rows, along v; or the columns of the row poles, along u, whose fits are measured against the
+// grid's points.
 #[derive(Clone, Copy)]
-pub struct Reached {
-    pub flat: usize,
-    pub measured: Measured,
+pub enum Kind<'a, 'b> {
+    Ladder,
+    Rows,
+    Columns(Surface<'a, 'b>),
+}
+
+// A direction to be fitted: its degree, the lightness factor of its distances, its parameters, and its lines of data, with a point for each parameter.
+#[derive(Clone, Copy)]
+pub struct Job<'a, 'b> {
+    pub degree: usize,
+    pub factor: f64,
+    pub params: &'a [f64],
+    pub lines: Lines<'a>,
+    pub kind: Kind<'a, 'b>,
+    pub ghost inside: { HasJob degree params.now lines kind },
 }
