@@ -45,7 +45,7 @@ pub record HasSquares (t : Table) (l : Lines) (places : ℕ) : Type 0 where
   pub points : l.count ≡ length t.firsts.now
   pub one : 1 ≤ l.lines
   pub few : l.lines ≤ 64
-  pub places : places ≡ 3 * (l.lines * t.poles)
+  pub room : places ≡ 3 * (l.lines * t.poles)
 
 -- A fit that was looked for: r says whether there is one, and then these are its poles.
 pub record Squared (t : Table) (l : Lines) (poles : List Float) (r : Bool) : Type 0 where

@@ -14,10 +14,10 @@ put_column h j first values a l = put_within h j (first + a) (at values a) l
 pub record HasMatrix (t : Table) (places : ℕ) : Type 0 where
   pub table : HasTable t
   pub poles : t.poles ≡ length t.firsts.now
-  pub places : places ≡ length t.firsts.now * (2 * (t.degree - 1) + 1)
+  pub room : places ≡ length t.firsts.now * (2 * (t.degree - 1) + 1)
 
 -- so many lines, and the places of a pole for each of their points
 pub record HasInterpolation (t : Table) (l : Lines) (places : ℕ) : Type 0 where
   pub points : l.count ≡ length t.firsts.now
   pub few : l.lines ≤ 64
-  pub places : places ≡ 3 * (l.lines * length t.firsts.now)
+  pub room : places ≡ 3 * (l.lines * length t.firsts.now)
