@@ -3,14 +3,15 @@ use Rattle.std.specs.Prelude.{◌≡◌, List, ℕ, ◌+◌, ◌*◌, ◌≤◌,
 use Rattle.knots.specs.declared.lines.Lines.{Lines}
 use Rattle.tables.specs.Layout.{HasTable}
 use Rattle.fitting.specs.declared.Kind.{Kind}
+use Rattle.fitting.specs.declared.Surface.{Surface}
 use Rattle.fitting.specs.declared.Kind.TheVariants.{Ladder, Rows, Columns}
 
 -- Lines of n points each, by what they are: a ladder is one line; a grid's points stand row after row; the columns of the row poles are as many as v's table has
 -- poles, and the grid's points stand beside them.
-unfoldable pub HasKind : ℕ → Lines → Kind → Type 0
-HasKind n l Ladder = (l.lines ≡ 1) × (3 * n ≤ length l.points.now)
-HasKind n l Rows = 3 * (l.lines * n) ≤ length l.points.now
-HasKind n l (Columns s) = HasTable s.across.now × ((s.across.now.poles ≡ l.lines) × (3 * (n * length s.across.now.firsts.now) ≤ length s.points.now))
+pub record HasKind (n : ℕ) (l : Lines) (kind : Kind) : Type 0 where
+  pub ladder : kind ≡ Ladder → (l.lines ≡ 1) × (3 * n ≤ length l.points.now)
+  pub rows : kind ≡ Rows → 3 * (l.lines * n) ≤ length l.points.now
+  pub columns : (s : Surface) → kind ≡ Columns s → HasTable s.across.now × ((s.across.now.poles ≡ l.lines) × (3 * (n * length s.across.now.firsts.now) ≤ length s.points.now))
 
 -- more parameters than the degree, and up to 64 lines with a point for each
 pub record HasJob (degree : ℕ) (params : List Float) (l : Lines) (kind : Kind) : Type 0 where

@@ -34,6 +34,7 @@ impl Sizes {
     ghost use Rattle.fitting.specs.Room.{SmallSizes, places_of};
 
     // How many places of the work.
+    #[tactic(auto, unfolding(crate::specs::Room::places_of))]
     pub fn places(self) -> usize
         requires { SmallSizes self }
         ensures { result ≡ places_of self }
