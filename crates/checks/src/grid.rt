@@ -2,11 +2,11 @@
 #![tactic(auto, unfolding(crate::specs::GridChecks::grid_shape_verdict, crate::specs::GridChecks::grid_room_verdict, crate::specs::GridChecks::grid_checks, crate::specs::GridChecks::counts_verdict))]
 
 ghost use Rattle.std.specs.Prelude.{◌≡◌, ◌≤◌, length, OnOk};
-ghost use Rattle.bspline.specs.Refusals.{◌next◌, factor_verdict};
-ghost use Rattle.checks.specs.LadderChecks.{coordinates_verdict};
-ghost use Rattle.checks.specs.GridChecks.{work_length, index_length, grid_shape_verdict, grid_room_verdict, counts_verdict, GridShaped, GridRoomy};
+ghost use Rattle.checks.specs.GridChecks.{work_length, index_length, grid_shape_verdict, grid_room_verdict, grid_checks, counts_verdict, GridShaped, GridRoomy};
+ghost use Rattle.checks.specs.Slices.{grid_in};
 
 use crate::ladder::{check_chosen, check_coordinates, check_unchosen};
+use crate::given::Grid;
 use crate::{GridRoom, Shape, SurfaceCall};
 use bspline::{Refusal, check_factor};
 
@@ -77,15 +77,15 @@ fn check_room(shape: Shape, room: GridRoom) -> Result<(), Refusal>
 }
 
 // All of them up to 10.
-pub fn check_grid(points: &[f64], shape: Shape, room: GridRoom, factor: f64) -> Result<(), Refusal>
-    ensures verdict { result ≡ (grid_shape_verdict (length points.now) shape next grid_room_verdict shape room next factor_verdict factor next coordinates_verdict points.now) }
-    ensures shaped { OnOk result (GridShaped (length points.now) shape) }
-    ensures roomy { OnOk result (GridRoomy shape room) }
+pub fn check_grid(grid: Grid, room: GridRoom) -> Result<(), Refusal>
+    ensures verdict { result ≡ grid_checks (grid_in grid.entry) room }
+    ensures shaped { OnOk result (GridShaped (length grid.entry.points.now) grid.entry.shape) }
+    ensures roomy { OnOk result (GridRoomy grid.entry.shape room) }
 {
-    check_shape(points.len(), shape)?;
-    check_room(shape, room)?;
-    check_factor(factor)?;
-    check_coordinates(points)
+    check_shape(grid.points.len(), grid.shape)?;
+    check_room(grid.shape, room)?;
+    check_factor(grid.metric.factor)?;
+    check_coordinates(grid.points)
 }
 
 // 3 and 4 along u, then along v.

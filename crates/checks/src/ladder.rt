@@ -6,6 +6,7 @@ ghost use Rattle.std.specs.List.{list_any};
 ghost use Rattle.bspline.specs.Refusals.{outside, pass};
 ghost use Rattle.checks.specs.LadderChecks.{shape_verdict, chosen_verdict, unchosen_verdict, count_verdict, room_verdict, coordinates_verdict, ladder_verdict, Shaped, Roomy};
 
+use crate::given::Ladder;
 use crate::{Call, Room};
 use bspline::{Refusal, check_factor};
 
@@ -111,21 +112,17 @@ pub fn check_coordinates(points: &[f64]) -> Result<(), Refusal>
 }
 
 // All of them.
-pub fn check_ladder(
-    call: Call,
-    points: &[f64],
-    degree: usize,
-    room: Room,
-    factor: f64,
-) -> Result<(), Refusal>
-    ensures verdict { result ≡ ladder_verdict call points.now degree factor room }
-    ensures shaped { OnOk result (Shaped (length points.now) degree) }
-    ensures counted { OnOk result (count_verdict call (length points.now / 3) degree ≡ pass) }
-    ensures roomy { OnOk result (Roomy (length points.now / 3) degree room) }
+pub fn check_ladder(ladder: Ladder, call: Call, room: Room) -> Result<(), Refusal>
+    ensures verdict { result ≡ ladder_verdict call ladder.entry.points.now ladder.entry.degree ladder.entry.metric.factor room }
+    ensures shaped { OnOk result (Shaped (length ladder.entry.points.now) ladder.entry.degree) }
+    ensures counted { OnOk result (count_verdict call (length ladder.entry.points.now / 3) ladder.entry.degree ≡ pass) }
+    ensures roomy { OnOk result (Roomy (length ladder.entry.points.now / 3) ladder.entry.degree room) }
 {
-    check_shape(points.len(), degree)?;
-    check_count(call, points.len() / 3, degree)?;
-    check_room(points.len() / 3, degree, room)?;
-    check_factor(factor)?;
-    check_coordinates(points)
+    let places = ladder.points.len();
+    let degree = ladder.degree;
+    check_shape(places, degree)?;
+    check_count(call, places / 3, degree)?;
+    check_room(places / 3, degree, room)?;
+    check_factor(ladder.metric.factor)?;
+    check_coordinates(ladder.points)
 }

@@ -1,8 +1,10 @@
 // What the calls are asked for, the lengths that they are lent, and document 01's checks.
 #![tactic(auto)]
 
+pub mod given;
 pub mod grid;
 pub mod ladder;
+pub mod slices;
 
 // Document 01's calls on a ladder: through the points, with a chosen pole count, within a tolerance, and the spread search alone.
 #[derive(Clone, Copy)]
