@@ -1,18 +1,19 @@
--- What a call makes of a direction whose parameters stand in the work: a refusal, or the fit that then stands in the job's regions. Definitions only.
-use Rattle.std.specs.Prelude.{◌≡◌, List, ◌⊎◌, ℕ, ◌+◌, ◌-◌, ◌*◌, ◌≤◌, length, Result, Ok, Err, Float}
-use Rattle.places.specs.Regions.{part}
+-- What a call makes of a direction: a refusal, or the fit that then stands in the regions. Definitions only.
+use Rattle.std.specs.Prelude.{◌≡◌, List, ℕ, ◌+◌, ◌-◌, ◌*◌, ◌≤◌, length, take, Result, Ok, Err, Float}
 use Rattle.geometry.specs.Doubles.{largest}
 use Rattle.bspline.specs.declared.Refusal.{Refusal}
-use Rattle.tables.specs.Layout.{Kept}
 use Rattle.tables.specs.Deviations.{unreadable}
 use Rattle.fitting.specs.declared.Job.{Job}
 use Rattle.fitting.specs.declared.Mark.{Mark}
 use Rattle.fitting.specs.declared.Mark.TheVariants.{Refined, Spread, Interpolated, Chosen}
-use Rattle.making.specs.declared.Standing.{Standing}
+use Rattle.fitting.specs.declared.room.Regions.{Regions}
 use Rattle.fitting.specs.Within.{Candidate, Marked, refined, spread, interpolated, chosen}
 use Rattle.fitting.specs.Marks.{largest_deviation}
+use Rattle.fitting.specs.Flat.{flat_of}
+use Rattle.fitting.specs.Jobs.{HasRegions, HasKnots, candidate_in}
+use Rattle.making.specs.declared.Standing.{Standing}
+use Rattle.making.specs.declared.saved.SavedFit.{SavedFit}
 use Rattle.making.specs.Results.{FitResult}
-use Rattle.fitting.specs.Jobs.{HasKnots, candidate_in}
 
 -- a fit by its mark; m poles
 unfoldable pub marked_as : Mark → ℕ → Candidate → Marked
@@ -22,8 +23,8 @@ marked_as (Interpolated x) m f = interpolated f
 marked_as (Chosen x) m f = chosen f
 
 -- the fit that stands in the regions
-unfoldable pub standing_in : Job → List Float → List Float → List ℕ → Standing → Marked
-standing_in j points w index x = marked_as x.mark (x.flat - j.table.degree - 1) (candidate_in j points x.flat w index)
+unfoldable pub standing_in : Job → Regions → Standing → Marked
+standing_in j g x = marked_as x.mark (g.knots.count - j.degree - 1) (candidate_in j g)
 
 -- what a call makes of a direction
 abbrev pub Made : Type 0
@@ -34,53 +35,38 @@ made_in (Err c) f = Err c
 made_in (Ok x) f = Ok (f x)
 
 -- The fit x stands in the regions, with what its distances measure.
-pub record StandsIn (j : Job) (points w : List Float) (index : List ℕ) (x : Standing) : Type 0 where
-  pub most : largest_deviation x.mark ≡ largest (candidate_in j points x.flat w index).distances
-  pub unread : x.unreadable ≡ unreadable (candidate_in j points x.flat w index).distances
-  pub few : HasKnots j x.flat
+pub record StandsIn (j : Job) (g : Regions) (x : Standing) : Type 0 where
+  pub most : largest_deviation x.mark ≡ largest (candidate_in j g).distances
+  pub unread : x.unreadable ≡ unreadable (candidate_in j g).distances
+  pub few : HasKnots j g.knots.count
 
--- What a call makes of the direction in the slices: a refusal; or a fit, which stands there.
-pub record Makes (j : Job) (points : List Float) (fit : FitResult) (w w' : List Float) (index index' : List ℕ) (r : Made) : Type 0 where
-  pub answer : fit ≡ made_in r (standing_in j points w' index')
-  pub standing : (x : Standing) → r ≡ Ok x → StandsIn j points w' index' x
-  pub firsts : Kept j.table.firsts (j.table.firsts + j.table.count) index index'
-  pub kept : Kept j.flat (length w) w w'
+-- What a call makes of the direction: a refusal; or a fit, which stands there.
+pub record Makes (j : Job) (fit : FitResult) (g' : Regions) (r : Made) : Type 0 where
+  pub answer : fit ≡ made_in r (standing_in j g')
+  pub standing : (x : Standing) → r ≡ Ok x → StandsIn j g' x
+  pub regions : HasRegions j g'
 
--- room for a fit behind the job's regions
-pub record HasSaved (j : Job) (saved : ℕ) (work : List Float) : Type 0 where
-  pub knots_inside : j.flat + (j.table.count + j.table.degree + 1) ≤ j.poles
-  pub poles_inside : j.poles + 3 * (j.given.lines * j.table.count) ≤ j.fresh
-  pub behind : j.fresh + j.table.count ≤ saved
-  pub room : saved + (j.table.count + j.table.degree + 1) + 3 * (j.given.lines * j.table.count) ≤ length work
+-- room for any fit of the direction beside its regions
+pub record HasSaved (j : Job) (s : SavedFit) : Type 0 where
+  pub flat : length j.params.now + j.degree + 1 ≤ length s.flat.now
+  pub poles : 3 * (j.lines.lines * length j.params.now) ≤ length s.poles.now
 
--- the places of the poles of a fit on l flat knots
-abbrev pub places_of : Job → ℕ → ℕ
-places_of j l = 3 * (j.given.lines * (l - j.table.degree - 1))
+-- The fit of l flat knots and n places of poles that stands in the regions, put by.
+pub record Saved (s s' : SavedFit) (l n : ℕ) (g : Regions) : Type 0 where
+  pub flat : take l s'.flat.now ≡ flat_of g.knots
+  pub poles : take n s'.poles.now ≡ take n g.fit.poles.now
+  pub flat_long : length s'.flat.now ≡ length s.flat.now
+  pub poles_long : length s'.poles.now ≡ length s.poles.now
 
--- where such a fit ends there
-abbrev pub saved_end : Job → ℕ → ℕ → ℕ
-saved_end j l saved = saved + l + places_of j l
-
--- l knots from place flat on and n places of poles from place poles on, which can be copied to the places from `to` and from `behind` on.
-pub record CopiesFit (l n flat poles to behind size : ℕ) : Type 0 where
-  pub knots_apart : (flat + l ≤ to) ⊎ (to + l ≤ flat)
-  pub poles_apart : (poles + n ≤ behind) ⊎ (behind + n ≤ poles)
-  pub poles_stay : (poles + n ≤ to) ⊎ (to + l ≤ poles)
-  pub order : to + l ≤ behind
-  pub knots_inside : flat + l ≤ size
-  pub poles_inside : poles + n ≤ size
-  pub room : behind + n ≤ size
-
--- And copied.
-pub record FitCopied (l n flat poles to behind : ℕ) (w w' : List Float) : Type 0 where
-  pub knots_there : part to (to + l) w' ≡ part flat (flat + l) w
-  pub poles_there : part behind (behind + n) w' ≡ part poles (poles + n) w
-  pub kept : Kept to (behind + n) w w'
-
--- The fit on l flat knots that stands in the regions, saved there.
-abbrev pub Saved : Job → ℕ → ℕ → List Float → List Float → Type 0
-Saved j l saved w w' = FitCopied l (places_of j l) j.flat j.poles saved (saved + l) w w'
-
--- And the one saved there, in the regions again.
-abbrev pub Restored : Job → ℕ → ℕ → List Float → List Float → Type 0
-Restored j l saved w w' = FitCopied l (places_of j l) saved (saved + l) j.flat j.poles w w'
+-- And the one that was put by, in the regions again.
+pub record Restored (s : SavedFit) (l n : ℕ) (g g' : Regions) : Type 0 where
+  pub count : g'.knots.count ≡ l
+  pub flat : flat_of g'.knots ≡ take l s.flat.now
+  pub poles : take n g'.fit.poles.now ≡ take n s.poles.now
+  pub flat_long : length g'.knots.places.now ≡ length g.knots.places.now
+  pub poles_long : length g'.fit.poles.now ≡ length g.fit.poles.now
+  pub table : g'.fit.table ≡ g.fit.table
+  pub band : length g'.band.now ≡ length g.band.now
+  pub curve : length g'.curve.now ≡ length g.curve.now
+  pub squares : length g'.squares.now ≡ length g.squares.now
+  pub fresh : length g'.fresh.now ≡ length g.fresh.now

@@ -1,9 +1,10 @@
-// What each call makes of a direction whose parameters stand in the work: a refusal, or a fit that then stands in the job's regions.
+// What each call makes of a direction: a refusal, or a fit that then stands in its regions.
 #![tactic(auto)]
 
 pub mod output;
+pub mod saved;
 
-ghost use Rattle.std.specs.Prelude.{◌≡◌, ◌≤◌, ◌<◌, length};
+ghost use Rattle.std.specs.Prelude.{◌≡◌, Ok, length};
 ghost use Rattle.std.proofs.Math.Option.{some};
 ghost use Rattle.bspline.specs.Refusals.{pass};
 ghost use Rattle.checks.specs.declared.Call.TheVariants.{Interpolate, Approximate, ApproximateWithin, SearchSpread};
@@ -11,218 +12,134 @@ ghost use Rattle.tables.specs.Measures.{measured};
 ghost use Rattle.fitting.specs.Within.{fewer_or, fit_within_fewest};
 ghost use Rattle.making.specs.Results.{fit_to, fit_by};
 ghost use Rattle.checks.specs.LadderChecks.{aim_verdict, count_verdict};
-ghost use Rattle.fitting.specs.Jobs.{HasJob, HasKnots, direction_of, candidate_in};
-ghost use Rattle.making.specs.Runs.{HasSaved, CopiesFit, FitCopied, Makes};
+ghost use Rattle.fitting.specs.Jobs.{HasRegions, HasKnots, direction_of, candidate_in};
+ghost use Rattle.making.specs.Runs.{HasSaved, Makes};
 
 use bspline::Refusal;
 use checks::{Aim, Call};
-use fitting::{Job, Mark, Reached};
+use fitting::attempts::{attempt_spread, pass_through};
+use fitting::counts::fit_on_spread_knots;
+use fitting::refining::fit_with_refined_knots;
+use fitting::room::Regions;
+use fitting::{Job, Mark};
+use saved::SavedFit;
 use tables::Measured;
 
-// A fit that stands in its job's regions: its mark, how many flat knots it has, and how many of its deviations are unreadable.
+// A fit that stands in its regions: its mark, and how many of its deviations are unreadable.
 #[derive(Clone, Copy)]
 pub struct Standing {
     pub mark: Mark,
-    pub flat: usize,
     pub unreadable: usize,
 }
 
 // Through the points.
-fn make_through(
-    work: &mut [f64],
-    index: &mut [usize],
-    points: &[f64],
-    job: Job,
-) -> Result<Standing, Refusal>
-    requires { HasJob job points.now work.old index.old }
-    ensures { Makes job points.now (fit_by Interpolate (direction_of job points.now work.old index.old))
-        work.old work.new index.old index.new result }
+fn make_through(job: Job, at: &mut Regions) -> Result<Standing, Refusal>
+    requires { HasRegions job at.old }
+    ensures { Makes job.entry (fit_by Interpolate (direction_of job.entry)) at.new result }
 {
-    let m = fitting::attempts::pass_through(work, index, points, job);
+    let m = pass_through(job, at);
     Ok(Standing {
         mark: Mark::Interpolated(m.largest),
-        flat: job.table.count + job.table.degree + 1,
         unreadable: m.unreadable,
     })
 }
 
 // With a chosen pole count; 6 where least squares gives none.
-fn make_chosen(
-    work: &mut [f64],
-    index: &mut [usize],
-    points: &[f64],
-    job: Job,
-    count: usize,
-) -> Result<Standing, Refusal>
-    requires { HasJob job points.now work.old index.old × (job.table.degree < count) × (count ≤ job.table.count) }
-    ensures { Makes job points.now (fit_by (Approximate count) (direction_of job points.now work.old index.old))
-        work.old work.new index.old index.new result }
+fn make_chosen(job: Job, at: &mut Regions, count: usize) -> Result<Standing, Refusal>
+    requires { HasRegions job at.old × (job.degree < count) × (count ≤ length job.params.now) }
+    ensures { Makes job.entry (fit_by (Approximate count) (direction_of job.entry)) at.new result }
 {
-    match fitting::attempts::attempt_spread(work, index, points, job, count) {
-        None => Err(Refusal::PoleCountMismatch),
+    let m = attempt_spread(job, at, count).ok_or(Refusal::PoleCountMismatch)?;
+    Ok(Standing {
+        mark: Mark::Chosen(m.largest),
+        unreadable: m.unreadable,
+    })
+}
+
+// By the spread search, else through the points.
+fn make_spread(job: Job, at: &mut Regions, tolerance: f64) -> Result<Standing, Refusal>
+    requires { HasRegions job at.old }
+    ensures { Makes job.entry (fit_by (SearchSpread tolerance) (direction_of job.entry)) at.new result }
+{
+    match fit_on_spread_knots(job, at, tolerance, job.params.len()) {
+        None => make_through(job, at),
         Some(m) => Ok(Standing {
-            mark: Mark::Chosen(m.largest),
-            flat: count + job.table.degree + 1,
+            mark: Mark::Spread(m.largest),
             unreadable: m.unreadable,
         }),
     }
 }
 
-// By the spread search, else through the points.
-fn make_spread(
-    work: &mut [f64],
-    index: &mut [usize],
-    points: &[f64],
-    job: Job,
-    tolerance: f64,
-) -> Result<Standing, Refusal>
-    requires { HasJob job points.now work.old index.old }
-    ensures { Makes job points.now (fit_by (SearchSpread tolerance) (direction_of job points.now work.old index.old))
-        work.old work.new index.old index.new result }
-{
-    let last = job.table.count;
-    match fitting::counts::fit_on_spread_knots(work, index, points, job, tolerance, last) {
-        None => make_through(work, index, points, job),
-        Some(Reached { flat, measured }) => Ok(Standing {
-            mark: Mark::Spread(measured.largest),
-            flat,
-            unreadable: measured.unreadable,
-        }),
-    }
-}
-
 // By refinement, else by the spread search.
-fn make_within(
-    work: &mut [f64],
-    index: &mut [usize],
-    points: &[f64],
-    job: Job,
-    tolerance: f64,
-) -> Result<Standing, Refusal>
-    requires { HasJob job points.now work.old index.old }
-    ensures { Makes job points.now (fit_by (ApproximateWithin tolerance) (direction_of job points.now work.old index.old))
-        work.old work.new index.old index.new result }
+fn make_within(job: Job, at: &mut Regions, tolerance: f64) -> Result<Standing, Refusal>
+    requires { HasRegions job at.old }
+    ensures { Makes job.entry (fit_by (ApproximateWithin tolerance) (direction_of job.entry)) at.new result }
 {
-    match fitting::refining::fit_with_refined_knots(work, index, points, job, tolerance) {
-        None => make_spread(work, index, points, job, tolerance),
-        Some(Reached { flat, measured }) => Ok(Standing {
-            mark: Mark::Refined(measured.largest),
-            flat,
-            unreadable: measured.unreadable,
+    match fit_with_refined_knots(job, at, tolerance) {
+        None => make_spread(job, at, tolerance),
+        Some(m) => Ok(Standing {
+            mark: Mark::Refined(m.largest),
+            unreadable: m.unreadable,
         }),
     }
 }
 
-// A fit of l knots and n places of poles, copied from the places flat and poles to the places to and behind.
-fn copy_fit(
-    work: &mut [f64],
-    l: usize,
-    n: usize,
-    flat: usize,
-    poles: usize,
-    to: usize,
-    behind: usize,
-)
-    requires { CopiesFit l n flat poles to behind (length work.old) }
-    ensures { FitCopied l n flat poles to behind work.old work.new }
+// By the spread search below the poles of the refined fit that stands in the regions; else that fit.
+fn make_fewer(job: Job, at: &mut Regions, saved: &mut SavedFit, tolerance: f64, refined: Measured) -> Result<Standing, Refusal>
+    requires stands { HasRegions job at.old × HasKnots job at.old.knots.count × (refined ≡ measured (candidate_in job at.old).distances) }
+    requires room { HasSaved job saved.old }
+    ensures { Makes job.entry (Ok (fewer_or (direction_of job.entry) tolerance (some (candidate_in job.entry at.old)))) at.new result }
 {
-    work.copy_within(flat..flat + l, to);
-    work.copy_within(poles..poles + n, behind);
-}
-
-// By the spread search below the poles of the refined fit that stands on l flat knots; else that fit.
-fn make_fewer(
-    work: &mut [f64],
-    index: &mut [usize],
-    points: &[f64],
-    job: Job,
-    tolerance: f64,
-    saved: usize,
-    l: usize,
-    refined: Measured,
-) -> Result<Standing, Refusal>
-    requires { HasJob job points.now work.old index.old × HasSaved job saved work.old × HasKnots job l
-        × (refined ≡ measured (candidate_in job points.now l work.old index.old).distances) }
-    ensures { Makes job points.now
-        (Ok (fewer_or (direction_of job points.now work.old index.old) tolerance (some (candidate_in job points.now l work.old index.old))))
-        work.old work.new index.old index.new result }
-{
-    let below = l - job.table.degree - 1;
-    let n = 3 * (job.given.lines * below);
-    copy_fit(work, l, n, job.flat, job.poles, saved, saved + l);
-    match fitting::counts::fit_on_spread_knots(work, index, points, job, tolerance, below) {
+    let l = at.knots.count;
+    let below = l - job.degree - 1;
+    let places = 3 * (job.lines.lines * below);
+    saved.save(at, places);
+    match fit_on_spread_knots(job, at, tolerance, below) {
         None => {
-            copy_fit(work, l, n, saved, saved + l, job.flat, job.poles);
+            saved.restore(at, l, places);
             Ok(Standing {
                 mark: Mark::Refined(refined.largest),
-                flat: l,
                 unreadable: refined.unreadable,
             })
         }
-        Some(Reached { flat, measured }) => Ok(Standing {
-            mark: Mark::Spread(measured.largest),
-            flat,
-            unreadable: measured.unreadable,
+        Some(m) => Ok(Standing {
+            mark: Mark::Spread(m.largest),
+            unreadable: m.unreadable,
         }),
     }
 }
 
 // By refinement and then the spread search below it (`fit_within_fewest`); else by the spread search.
-fn make_fewest(
-    work: &mut [f64],
-    index: &mut [usize],
-    points: &[f64],
-    job: Job,
-    tolerance: f64,
-    saved: usize,
-) -> Result<Standing, Refusal>
-    requires { HasJob job points.now work.old index.old × HasSaved job saved work.old }
-    ensures { Makes job points.now (Ok (fit_within_fewest (direction_of job points.now work.old index.old) tolerance))
-        work.old work.new index.old index.new result }
+fn make_fewest(job: Job, at: &mut Regions, saved: &mut SavedFit, tolerance: f64) -> Result<Standing, Refusal>
+    requires { HasRegions job at.old × HasSaved job saved.old }
+    ensures { Makes job.entry (Ok (fit_within_fewest (direction_of job.entry) tolerance)) at.new result }
 {
-    match fitting::refining::fit_with_refined_knots(work, index, points, job, tolerance) {
-        None => make_spread(work, index, points, job, tolerance),
-        Some(Reached { flat, measured }) => {
-            make_fewer(work, index, points, job, tolerance, saved, flat, measured)
-        }
+    match fit_with_refined_knots(job, at, tolerance) {
+        None => make_spread(job, at, tolerance),
+        Some(m) => make_fewer(job, at, saved, tolerance, m),
     }
 }
 
 // By what a grid's direction is fitted to.
-pub fn make_direction(
-    work: &mut [f64],
-    index: &mut [usize],
-    points: &[f64],
-    job: Job,
-    aim: Aim,
-    saved: usize,
-) -> Result<Standing, Refusal>
-    requires { HasJob job points.now work.old index.old × HasSaved job saved work.old × (aim_verdict aim job.table.count job.table.degree ≡ pass) }
-    ensures { Makes job points.now (fit_to aim (direction_of job points.now work.old index.old))
-        work.old work.new index.old index.new result }
+pub fn make_direction(job: Job, at: &mut Regions, saved: &mut SavedFit, aim: Aim) -> Result<Standing, Refusal>
+    requires { HasRegions job at.old × HasSaved job saved.old × (aim_verdict aim (length job.params.now) job.degree ≡ pass) }
+    ensures { Makes job.entry (fit_to aim (direction_of job.entry)) at.new result }
 {
     match aim {
-        Aim::Count(count) => make_chosen(work, index, points, job, count),
-        Aim::Within(tolerance) => make_fewest(work, index, points, job, tolerance, saved),
+        Aim::Count(count) => make_chosen(job, at, count),
+        Aim::Within(tolerance) => make_fewest(job, at, saved, tolerance),
     }
 }
 
 // By what the call asks for.
-pub fn make(
-    work: &mut [f64],
-    index: &mut [usize],
-    points: &[f64],
-    job: Job,
-    call: Call,
-) -> Result<Standing, Refusal>
-    requires { HasJob job points.now work.old index.old × (count_verdict call job.table.count job.table.degree ≡ pass) }
-    ensures { Makes job points.now (fit_by call (direction_of job points.now work.old index.old))
-        work.old work.new index.old index.new result }
+pub fn make(job: Job, at: &mut Regions, call: Call) -> Result<Standing, Refusal>
+    requires { HasRegions job at.old × (count_verdict call (length job.params.now) job.degree ≡ pass) }
+    ensures { Makes job.entry (fit_by call (direction_of job.entry)) at.new result }
 {
     match call {
-        Call::Interpolate => make_through(work, index, points, job),
-        Call::Approximate(count) => make_chosen(work, index, points, job, count),
-        Call::ApproximateWithin(tolerance) => make_within(work, index, points, job, tolerance),
-        Call::SearchSpread(tolerance) => make_spread(work, index, points, job, tolerance),
+        Call::Interpolate => make_through(job, at),
+        Call::Approximate(count) => make_chosen(job, at, count),
+        Call::ApproximateWithin(tolerance) => make_within(job, at, tolerance),
+        Call::SearchSpread(tolerance) => make_spread(job, at, tolerance),
     }
 }
