@@ -1,5 +1,5 @@
 -- What a call makes of a direction: a refusal, or the fit that then stands in the regions. Definitions only.
-use Rattle.std.specs.Prelude.{◌≡◌, List, ℕ, ◌+◌, ◌-◌, ◌*◌, ◌≤◌, length, take, Result, Ok, Err, Float}
+use Rattle.std.specs.Prelude.{◌≡◌, ℕ, ◌-◌, Result, Ok, Err}
 use Rattle.geometry.specs.Doubles.{largest}
 use Rattle.bspline.specs.declared.Refusal.{Refusal}
 use Rattle.tables.specs.Deviations.{unreadable}
@@ -9,10 +9,8 @@ use Rattle.fitting.specs.declared.Mark.TheVariants.{Refined, Spread, Interpolate
 use Rattle.fitting.specs.declared.room.Regions.{Regions}
 use Rattle.fitting.specs.Within.{Candidate, Marked, refined, spread, interpolated, chosen}
 use Rattle.fitting.specs.Marks.{largest_deviation}
-use Rattle.fitting.specs.Flat.{flat_of}
 use Rattle.fitting.specs.Jobs.{HasRegions, HasKnots, candidate_in}
 use Rattle.making.specs.declared.Standing.{Standing}
-use Rattle.making.specs.declared.saved.SavedFit.{SavedFit}
 use Rattle.making.specs.Results.{FitResult}
 
 -- a fit by its mark; m poles
@@ -45,28 +43,3 @@ pub record Makes (j : Job) (fit : FitResult) (g' : Regions) (r : Made) : Type 0 
   pub answer : fit ≡ made_in r (standing_in j g')
   pub standing : (x : Standing) → r ≡ Ok x → StandsIn j g' x
   pub regions : HasRegions j g'
-
--- room for any fit of the direction beside its regions
-pub record HasSaved (j : Job) (s : SavedFit) : Type 0 where
-  pub flat : length j.params.now + j.degree + 1 ≤ length s.flat.now
-  pub poles : 3 * (j.lines.lines * length j.params.now) ≤ length s.poles.now
-
--- The fit of l flat knots and n places of poles that stands in the regions, put by.
-pub record Saved (s s' : SavedFit) (l n : ℕ) (g : Regions) : Type 0 where
-  pub flat : take l s'.flat.now ≡ flat_of g.knots
-  pub poles : take n s'.poles.now ≡ take n g.fit.poles.now
-  pub flat_long : length s'.flat.now ≡ length s.flat.now
-  pub poles_long : length s'.poles.now ≡ length s.poles.now
-
--- And the one that was put by, in the regions again.
-pub record Restored (s : SavedFit) (l n : ℕ) (g g' : Regions) : Type 0 where
-  pub count : g'.knots.count ≡ l
-  pub flat : flat_of g'.knots ≡ take l s.flat.now
-  pub poles : take n g'.fit.poles.now ≡ take n s.poles.now
-  pub flat_long : length g'.knots.places.now ≡ length g.knots.places.now
-  pub poles_long : length g'.fit.poles.now ≡ length g.fit.poles.now
-  pub table : g'.fit.table ≡ g.fit.table
-  pub band : length g'.band.now ≡ length g.band.now
-  pub curve : length g'.curve.now ≡ length g.curve.now
-  pub squares : length g'.squares.now ≡ length g.squares.now
-  pub fresh : length g'.fresh.now ≡ length g.fresh.now

@@ -4,7 +4,7 @@
 pub mod output;
 pub mod saved;
 
-ghost use Rattle.std.specs.Prelude.{◌≡◌, Ok, length};
+ghost use Rattle.std.specs.Prelude.{◌≡◌, ◌≤◌, ◌<◌, Ok, length};
 ghost use Rattle.std.proofs.Math.Option.{some};
 ghost use Rattle.bspline.specs.Refusals.{pass};
 ghost use Rattle.checks.specs.declared.Call.TheVariants.{Interpolate, Approximate, ApproximateWithin, SearchSpread};
@@ -13,7 +13,8 @@ ghost use Rattle.fitting.specs.Within.{fewer_or, fit_within_fewest};
 ghost use Rattle.making.specs.Results.{fit_to, fit_by};
 ghost use Rattle.checks.specs.LadderChecks.{aim_verdict, count_verdict};
 ghost use Rattle.fitting.specs.Jobs.{HasRegions, HasKnots, direction_of, candidate_in};
-ghost use Rattle.making.specs.Runs.{HasSaved, Makes};
+ghost use Rattle.making.specs.Runs.{Makes, StandsIn};
+ghost use Rattle.making.specs.Saving.{HasSaved};
 
 use bspline::Refusal;
 use checks::{Aim, Call};
@@ -30,6 +31,16 @@ use tables::Measured;
 pub struct Standing {
     pub mark: Mark,
     pub unreadable: usize,
+}
+
+// The same with its direction and its regions.
+#[derive(Clone, Copy)]
+pub struct StandingFit<'a, 'b, 'c> {
+    pub job: Job<'a, 'b>,
+    pub at: &'a Regions<'c>,
+    pub standing: Standing,
+    pub ghost regions: { HasRegions job at.now },
+    pub ghost stands: { StandsIn job at.now standing },
 }
 
 // Through the points.

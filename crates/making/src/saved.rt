@@ -1,5 +1,9 @@
 // A fit that is put by while others are made in its regions.
-use fitting::room::Regions;
+ghost use Rattle.std.specs.Prelude.{◌≡◌};
+ghost use Rattle.fitting.specs.Room.{SmallSizes};
+ghost use Rattle.making.specs.Saving.{saved_places};
+
+use fitting::room::{Regions, Sizes};
 
 // Places for a fit's flat knots and for its poles.
 #[derive(Drop)]
@@ -8,9 +12,29 @@ pub struct SavedFit<'a> {
     pub poles: &'a mut [f64],
 }
 
-impl SavedFit<'_> {
-    ghost use Rattle.std.specs.Prelude.{◌≤◌, length};
-    ghost use Rattle.making.specs.Runs.{Saved, Restored};
+// How many places they are for regions of these sizes.
+pub fn saved_places(sizes: Sizes) -> usize
+    requires { SmallSizes sizes }
+    ensures { result ≡ saved_places sizes }
+{
+    (sizes.count + sizes.degree + 1) + 3 * (sizes.lines * sizes.count)
+}
+
+impl<'a> SavedFit<'a> {
+    ghost use Rattle.std.specs.Prelude.{◌≡◌, ◌+◌, ◌*◌, ◌≤◌, length};
+    ghost use Rattle.fitting.specs.Room.{SmallSizes};
+    ghost use Rattle.making.specs.Saving.{saved_places, Saved, Restored};
+
+    // Places for regions of these sizes, the first of the work.
+    pub fn new(sizes: Sizes, work: &'a mut [f64]) -> SavedFit<'a>
+        requires { SmallSizes sizes × (saved_places sizes ≤ length work.old) }
+        ensures flat { length result.flat.now ≡ sizes.count + sizes.degree + 1 }
+        ensures poles { length result.poles.now ≡ 3 * (sizes.lines * sizes.count) }
+    {
+        let (flat, work) = work.split_at_mut(sizes.count + sizes.degree + 1);
+        let (poles, _) = work.split_at_mut(3 * (sizes.lines * sizes.count));
+        SavedFit { flat, poles }
+    }
 
     // The fit that stands in the regions, so many places of poles, put by.
     pub fn save(&mut self, at: &Regions, places: usize)
