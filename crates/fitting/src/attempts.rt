@@ -18,7 +18,7 @@ impl Fitted<'_> {
     ghost use Rattle.fitting.specs.Solves.{HasLines, Solved, Passed};
 
     // The table of these knots.
-    fn fill(&mut self, knots: &FlatKnots, params: &[f64])
+    pub fn fill(&mut self, knots: &FlatKnots, params: &[f64])
         requires { FillsTable self.old.table (flat_of knots.now) params.now × (knots.now.count ≤ length knots.now.places.now) }
         ensures filled { Filled self.old.table self.new.table (flat_of knots.now) params.now }
         ensures poles_after { self.new.poles.now ≡ self.old.poles.now }

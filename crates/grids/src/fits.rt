@@ -1,138 +1,162 @@
 // A grid that passed its checks: both directions' parameters, the rows' fit, and the columns' fit over it.
-ghost use Rattle.std.specs.Prelude.{◌≡◌, length};
-ghost use Rattle.making.specs.Runs.{StandsIn};
-ghost use Rattle.checks.specs.GridChecks.{grid_of, grid_lent, grid_room_of, GridShaped, GridRoomy};
-ghost use Rattle.grids.specs.Grids.{grid_fit, HandsOutGrid};
-ghost use Rattle.grids.specs.GridRuns.{rows_job, rows_result, columns_over, Passed};
+ghost use Rattle.std.specs.Prelude.{◌≡◌, [], length};
+ghost use Rattle.tables.specs.Directions.{row_point, column_point};
+ghost use Rattle.knots.specs.OnLines.{on_lines};
+ghost use Rattle.checks.specs.GridChecks.{GridShaped, GridRoomy, grid_room_of};
+ghost use Rattle.checks.specs.Slices.{grid_in, grid_lent_with, SameGridOutput};
+ghost use Rattle.grids.specs.Grids.{fit_grid_by, grid_fit, HandsOutGrid};
+ghost use Rattle.grids.specs.GridRuns.{rows_sizes, columns_sizes, columns_over, OverRows, HasParams, HasGridOutput, ColumnsRoom, RowsRoom};
 
 use crate::GridFit;
+use crate::aims::{column_aim, row_aim};
+use crate::output::hand_both;
 use bspline::Refusal;
+use checks::given::Grid;
 use checks::grid::check_counts;
+use checks::slices::GridOutput;
 use checks::{Shape, SurfaceCall};
-use fitting::Job;
-use knots::Metric;
+use fitting::room::{Regions, Sizes};
+use fitting::{Job, Kind, Surface};
 use knots::lines::Lines;
 use knots::parameters::shared_parameters;
-use making::Standing;
+use making::StandingFit;
+use making::saved::{SavedFit, saved_places};
 
-// The columns' fit over the rows' fit x, which stands in the work.
-fn fit_columns(
-    points: &[f64],
-    shape: Shape,
-    call: SurfaceCall,
-    rows: Job,
-    x: Standing,
-    poles: &mut [f64],
-    uflat: &mut [f64],
-    uknots: &mut [f64],
-    umults: &mut [u32],
-    vflat: &mut [f64],
-    vknots: &mut [f64],
-    vmults: &mut [u32],
-    work: &mut [f64],
-    index: &mut [usize],
-) -> Result<GridFit, Refusal>
-    requires { Passed call points.now shape (grid_lent poles.old uflat.old uknots.old umults.old vflat.old vknots.old vmults.old work.old index.old) × (rows ≡ rows_job rows.factor shape)
-        × StandsIn (rows_job rows.factor shape) points.now work.old index.old x }
-    ensures { HandsOutGrid shape (columns_over rows.factor call shape points.now work.old index.old x)
-        (grid_lent poles.old uflat.old uknots.old umults.old vflat.old vknots.old vmults.old work.old index.old)
-        (grid_lent poles.new uflat.new uknots.new umults.new vflat.new vknots.new vmults.new work.new index.new) result }
+// The rows.
+fn rows_of(grid: Grid) -> Lines
+    requires { GridShaped (length grid.points.now) grid.shape }
+    ensures points { (on_lines result ≡ row_point grid.entry.points.now grid.entry.shape.cols) × (result.points ≡ grid.entry.points) }
+    ensures counts { (result.lines ≡ grid.entry.shape.rows) × (result.count ≡ grid.entry.shape.cols) }
 {
-    let flat = rows.flat;
-    tables::basis_table::fill_table(work, index, rows.table, flat, flat + x.flat, rows.params);
-    let columns = crate::jobs::columns_job(shape, rows, x.flat - shape.v - 1);
-    let saved = columns.fresh + shape.rows;
-    let aim = crate::jobs::column_aim(call);
-    let y = making::make_direction(work, index, points, columns, aim, saved)?;
-    Ok(crate::output::hand_both(
-        work, rows, x, columns, y, poles, uflat, uknots, umults, vflat, vknots, vmults,
-    ))
+    Lines {
+        points: grid.points,
+        lines: grid.shape.rows,
+        pitch: grid.shape.cols,
+        count: grid.shape.cols,
+        stride: 1,
+    }
+}
+
+// The columns.
+fn columns_of(grid: Grid) -> Lines
+    requires { GridShaped (length grid.points.now) grid.shape }
+    ensures points { on_lines result ≡ column_point grid.entry.points.now grid.entry.shape.cols }
+    ensures counts { (result.lines ≡ grid.entry.shape.cols) × (result.count ≡ grid.entry.shape.rows) }
+{
+    Lines {
+        points: grid.points,
+        lines: grid.shape.cols,
+        pitch: 1,
+        count: grid.shape.rows,
+        stride: grid.shape.cols,
+    }
+}
+
+// The sizes of the rows' regions, and of the columns' with so many columns of row poles.
+fn rows_sizes(shape: Shape) -> Sizes
+    ensures { result ≡ rows_sizes shape }
+{
+    Sizes {
+        degree: shape.v,
+        count: shape.cols,
+        lines: shape.rows,
+        curve: 0,
+    }
+}
+
+fn columns_sizes(shape: Shape, columns: usize) -> Sizes
+    requires { columns ≤ 64 }
+    ensures { result ≡ columns_sizes shape columns }
+{
+    Sizes {
+        degree: shape.u,
+        count: shape.rows,
+        lines: columns,
+        curve: 3 * columns,
+    }
+}
+
+// The columns' fit over the rows' fit, which stands with its table.
+fn fit_columns(grid: Grid, call: SurfaceCall, rows: StandingFit, u_params: &[f64], out: &mut GridOutput, work: &mut [f64], index: &mut [usize]) -> Result<GridFit, Refusal>
+    requires over { OverRows call grid rows (length u_params.now) }
+    requires room { HasGridOutput grid.shape out.old × ColumnsRoom grid.shape (length work.old) (length index.old) }
+    ensures hands { HandsOutGrid grid.entry.shape (columns_over call grid.entry rows.entry u_params.now) (grid_lent_with out.old [] []) (grid_lent_with out.new [] []) result }
+    ensures same { SameGridOutput out.old out.new }
+{
+    let shape = grid.shape;
+    let columns = rows.at.knots.count - shape.v - 1;
+    let lines = Lines {
+        points: &rows.at.fit.poles[..3 * (shape.rows * columns)],
+        lines: columns,
+        pitch: 1,
+        count: shape.rows,
+        stride: columns,
+    };
+    let surface = Surface {
+        points: grid.points,
+        across: &rows.at.fit.table,
+    };
+    let job = Job {
+        degree: shape.u,
+        factor: grid.metric.factor,
+        params: u_params,
+        lines,
+        kind: Kind::Columns(surface),
+    };
+    let sizes = columns_sizes(shape, columns);
+    let (near, work) = work.split_at_mut(sizes.places());
+    let mut at = Regions::new(sizes, near, index);
+    let mut saved = SavedFit::new(sizes, work);
+    let standing = making::make_direction(job, &mut at, &mut saved, column_aim(call))?;
+    let made = StandingFit {
+        job,
+        at: &at,
+        standing,
+    };
+    Ok(hand_both(rows, made, out))
 }
 
 // The rows' fit, and the columns' over it.
-fn fit_rows(
-    points: &[f64],
-    shape: Shape,
-    factor: f64,
-    call: SurfaceCall,
-    poles: &mut [f64],
-    uflat: &mut [f64],
-    uknots: &mut [f64],
-    umults: &mut [u32],
-    vflat: &mut [f64],
-    vknots: &mut [f64],
-    vmults: &mut [u32],
-    work: &mut [f64],
-    index: &mut [usize],
-) -> Result<GridFit, Refusal>
-    requires { Passed call points.now shape (grid_lent poles.old uflat.old uknots.old umults.old vflat.old vknots.old vmults.old work.old index.old) }
-    ensures { HandsOutGrid shape (rows_result factor call shape points.now work.old)
-        (grid_lent poles.old uflat.old uknots.old umults.old vflat.old vknots.old vmults.old work.old index.old)
-        (grid_lent poles.new uflat.new uknots.new umults.new vflat.new vknots.new vmults.new work.new index.new) result }
+fn fit_rows(grid: Grid, call: SurfaceCall, u_params: &[f64], v_params: &[f64], out: &mut GridOutput, work: &mut [f64], index: &mut [usize]) -> Result<GridFit, Refusal>
+    requires params { HasParams call grid (length u_params.now) (length v_params.now) }
+    requires room { HasGridOutput grid.shape out.old × RowsRoom grid.shape (length work.old) (length index.old) }
+    ensures hands { HandsOutGrid grid.entry.shape (fit_grid_by call (grid_in grid.entry) u_params.now v_params.now) (grid_lent_with out.old [] []) (grid_lent_with out.new [] []) result }
+    ensures same { SameGridOutput out.old out.new }
 {
-    let rows = crate::jobs::rows_job(shape, factor);
-    let saved = rows.fresh + shape.cols;
-    let aim = crate::jobs::row_aim(call);
-    let x = making::make_direction(work, index, points, rows, aim, saved)?;
-    fit_columns(
-        points, shape, call, rows, x, poles, uflat, uknots, umults, vflat, vknots, vmults, work,
-        index,
-    )
+    let job = Job {
+        degree: grid.shape.v,
+        factor: grid.metric.factor,
+        params: v_params,
+        lines: rows_of(grid),
+        kind: Kind::Rows,
+    };
+    let sizes = rows_sizes(grid.shape);
+    let (near, work) = work.split_at_mut(sizes.places());
+    let (put_by, work) = work.split_at_mut(saved_places(sizes));
+    let (firsts, index) = index.split_at_mut(grid.shape.cols);
+    let mut at = Regions::new(sizes, near, firsts);
+    let mut saved = SavedFit::new(sizes, put_by);
+    let standing = making::make_direction(job, &mut at, &mut saved, row_aim(call))?;
+    at.fit.fill(&at.knots, v_params);
+    let rows = StandingFit {
+        job,
+        at: &at,
+        standing,
+    };
+    fit_columns(grid, call, rows, u_params, out, work, index)
 }
 
 // The call on a grid that passed the checks up to 10: 5, then 3 and 4, then the fits.
-pub fn fit_passed(
-    points: &[f64],
-    shape: Shape,
-    metric: Metric,
-    call: SurfaceCall,
-    poles: &mut [f64],
-    uflat: &mut [f64],
-    uknots: &mut [f64],
-    umults: &mut [u32],
-    vflat: &mut [f64],
-    vknots: &mut [f64],
-    vmults: &mut [u32],
-    work: &mut [f64],
-    index: &mut [usize],
-) -> Result<GridFit, Refusal>
-    requires { GridShaped (length points.now) shape × GridRoomy shape (grid_room_of (grid_lent poles.old uflat.old uknots.old umults.old vflat.old vknots.old vmults.old work.old index.old)) }
-    ensures { HandsOutGrid shape (grid_fit call (grid_of points.now shape metric))
-        (grid_lent poles.old uflat.old uknots.old umults.old vflat.old vknots.old vmults.old work.old index.old)
-        (grid_lent poles.new uflat.new uknots.new umults.new vflat.new vknots.new vmults.new work.new index.new) result }
+pub fn fit_passed(grid: Grid, call: SurfaceCall, out: &mut GridOutput, work: &mut [f64], index: &mut [usize]) -> Result<GridFit, Refusal>
+    requires shaped { GridShaped (length grid.points.now) grid.shape }
+    requires roomy { GridRoomy grid.shape (grid_room_of (grid_lent_with out.old work.old index.old)) }
+    ensures hands { HandsOutGrid grid.entry.shape (grid_fit call (grid_in grid.entry)) (grid_lent_with out.old [] []) (grid_lent_with out.new [] []) result }
+    ensures same { SameGridOutput out.old out.new }
 {
-    let rows = shape.rows;
-    let cols = shape.cols;
-    let columns = Lines {
-        points,
-        lines: cols,
-        pitch: 1,
-        count: rows,
-        stride: cols,
-    };
-    shared_parameters(columns, metric, work)?;
-    let lines = Lines {
-        points,
-        lines: rows,
-        pitch: cols,
-        count: cols,
-        stride: 1,
-    };
-    shared_parameters(lines, metric, &mut work[rows..])?;
-    check_counts(call, shape)?;
-    fit_rows(
-        points,
-        shape,
-        metric.factor,
-        call,
-        poles,
-        uflat,
-        uknots,
-        umults,
-        vflat,
-        vknots,
-        vmults,
-        work,
-        index,
-    )
+    shared_parameters(columns_of(grid), grid.metric, work)?;
+    let (u_params, work) = work.split_at_mut(grid.shape.rows);
+    shared_parameters(rows_of(grid), grid.metric, work)?;
+    check_counts(call, grid.shape)?;
+    let (v_params, work) = work.split_at_mut(grid.shape.cols);
+    fit_rows(grid, call, u_params, v_params, out, work, index)
 }

@@ -1,8 +1,8 @@
 // Grid fits: document 01, part 4.
 #![tactic(auto)]
 
+pub mod aims;
 pub mod fits;
-pub mod jobs;
 pub mod output;
 
 use fitting::Fit;

@@ -1,3 +1,3 @@
 -- The ladder calls and their contracts.
 pub mod Ladders
-pub mod LadderJob
+pub mod Standing
