@@ -50,7 +50,7 @@ impl Fitted<'_> {
     }
 }
 
-impl Job<'_, '_> {
+impl Job<'_, '_, '_, '_> {
     ghost use Rattle.std.specs.Prelude.{length};
     ghost use Rattle.tables.specs.Measures.{LeavesSquares};
     ghost use Rattle.fitting.specs.Solves.{HasFit};

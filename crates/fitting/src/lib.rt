@@ -73,11 +73,11 @@ pub enum Kind<'a, 'b> {
 
 // A direction to be fitted: its degree, the lightness factor of its distances, its parameters, and its lines of data, with a point for each parameter.
 #[derive(Clone, Copy)]
-pub struct Job<'a, 'b> {
+pub struct Job<'a, 'b, 'c, 'd> {
     pub degree: usize,
     pub factor: f64,
     pub params: &'a [f64],
-    pub lines: Lines<'a>,
-    pub kind: Kind<'a, 'b>,
+    pub lines: Lines<'b>,
+    pub kind: Kind<'c, 'd>,
     pub ghost inside: { HasJob degree params.now lines kind },
 }

@@ -1,5 +1,5 @@
 // A grid that passed its checks: both directions' parameters, the rows' fit, and the columns' fit over it.
-ghost use Rattle.std.specs.Prelude.{◌≡◌, [], length};
+ghost use Rattle.std.specs.Prelude.{◌≡◌, ◌≤◌, [], length};
 ghost use Rattle.tables.specs.Directions.{row_point, column_point};
 ghost use Rattle.knots.specs.OnLines.{on_lines};
 ghost use Rattle.checks.specs.GridChecks.{GridShaped, GridRoomy, grid_room_of};
@@ -84,9 +84,10 @@ fn fit_columns(grid: Grid, call: SurfaceCall, rows: StandingFit, u_params: &[f64
     ensures same { SameGridOutput out.old out.new }
 {
     let shape = grid.shape;
-    let columns = rows.at.knots.count - shape.v - 1;
+    let below = rows.at;
+    let columns = below.knots.count - shape.v - 1;
     let lines = Lines {
-        points: &rows.at.fit.poles[..3 * (shape.rows * columns)],
+        points: &below.fit.poles[..3 * (shape.rows * columns)],
         lines: columns,
         pitch: 1,
         count: shape.rows,
@@ -94,7 +95,7 @@ fn fit_columns(grid: Grid, call: SurfaceCall, rows: StandingFit, u_params: &[f64
     };
     let surface = Surface {
         points: grid.points,
-        across: &rows.at.fit.table,
+        across: &below.fit.table,
     };
     let job = Job {
         degree: shape.u,

@@ -40,11 +40,12 @@ fn hand_direction(x: StandingFit, out: &mut KnotSlices) -> Fit
     requires { HasKnotsOut x.at.now.knots.count out.old }
     ensures { HandsDirection x.entry out.old out.new result }
 {
-    let l = x.at.knots.count;
+    let at = x.at;
+    let l = at.knots.count;
     Fit {
         mark: x.standing.mark,
         poles: l - x.job.degree - 1,
-        knots: making::output::hand_knots(&x.at.knots.places[..l], out),
+        knots: making::output::hand_knots(&at.knots.places[..l], out),
         unreadable: x.standing.unreadable,
     }
 }
@@ -56,7 +57,8 @@ pub fn hand_both(rows: StandingFit, columns: StandingFit, out: &mut GridOutput) 
 {
     let u = hand_direction(columns, &mut out.u);
     let v = hand_direction(rows, &mut out.v);
+    let at = columns.at;
     let places = 3 * (v.poles * u.poles);
-    surface_poles(&columns.at.fit.poles[..places], v.poles, u.poles, out.poles);
+    surface_poles(&at.fit.poles[..places], v.poles, u.poles, out.poles);
     GridFit { u, v }
 }

@@ -27,10 +27,11 @@ fn hand_standing(x: StandingFit, out: &mut Output) -> Fit
     requires room { HasOutput (length x.job.params.now) x.job.degree out.old }
     ensures { HandsStanding x.entry out.old out.new result }
 {
-    let l = x.at.knots.count;
+    let at = x.at;
+    let l = at.knots.count;
     let m = l - x.job.degree - 1;
-    let poles = &x.at.fit.poles[..3 * m];
-    let flat = &x.at.knots.places[..l];
+    let poles = &at.fit.poles[..3 * m];
+    let flat = &at.knots.places[..l];
     Fit {
         mark: x.standing.mark,
         poles: m,

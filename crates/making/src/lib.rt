@@ -35,9 +35,9 @@ pub struct Standing {
 
 // The same with its direction and its regions.
 #[derive(Clone, Copy)]
-pub struct StandingFit<'a, 'b, 'c> {
-    pub job: Job<'a, 'b>,
-    pub at: &'a Regions<'c>,
+pub struct StandingFit<'a, 'b, 'c, 'd, 'e, 'f> {
+    pub job: Job<'a, 'b, 'c, 'd>,
+    pub at: &'e Regions<'f>,
     pub standing: Standing,
     pub ghost regions: { HasRegions job at.now },
     pub ghost stands: { StandsIn job at.now standing },
