@@ -12,7 +12,7 @@ use Rattle.places.proofs.PlaceLaws.{length-joined, laid_copy}
 use Rattle.geometry.specs.Doubles.{at}
 use Rattle.geometry.specs.Points.{point_at, points_of}
 use Rattle.tables.specs.Directions.{transposed}
-use Rattle.tables.proofs.SpliceLaws.{length-points}
+use Rattle.tables.proofs.PointsLaws.{length-points}
 
 -- row k: pole k of each column
 abbrev pub surface_row : ℕ → ℕ → List Float → ℕ → List Float

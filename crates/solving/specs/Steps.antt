@@ -40,12 +40,12 @@ pub record HasPoints (t : Table) (l : Line) : Type 0 where
   pub points : l.count ≡ length t.firsts.now
 
 -- so many lines, and the places of as many poles for each as the table has
-pub record HasSquares (t : Table) (l : Lines) (places : ℕ) : Type 0 where
+pub record HasSquares (t : Table) (l : Lines) (size : ℕ) : Type 0 where
   pub table : HasTable t
   pub points : l.count ≡ length t.firsts.now
   pub one : 1 ≤ l.lines
   pub few : l.lines ≤ 64
-  pub room : places ≡ 3 * (l.lines * t.poles)
+  pub places : size ≡ 3 * (l.lines * t.poles)
 
 -- A fit that was looked for: r says whether there is one, and then these are its poles.
 pub record Squared (t : Table) (l : Lines) (poles : List Float) (r : Bool) : Type 0 where

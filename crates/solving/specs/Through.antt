@@ -11,13 +11,13 @@ unfoldable pub put_column : ℕ → ℕ → ℕ → List Float → ℕ → List 
 put_column h j first values a l = put_within h j (first + a) (at values a) l
 
 -- a table with one pole for each parameter, and the places of its matrix
-pub record HasMatrix (t : Table) (places : ℕ) : Type 0 where
+pub record HasMatrix (t : Table) (size : ℕ) : Type 0 where
   pub table : HasTable t
   pub poles : t.poles ≡ length t.firsts.now
-  pub room : places ≡ length t.firsts.now * (2 * (t.degree - 1) + 1)
+  pub places : size ≡ length t.firsts.now * (2 * (t.degree - 1) + 1)
 
 -- so many lines, and the places of a pole for each of their points
-pub record HasInterpolation (t : Table) (l : Lines) (places : ℕ) : Type 0 where
+pub record HasInterpolation (t : Table) (l : Lines) (size : ℕ) : Type 0 where
   pub points : l.count ≡ length t.firsts.now
   pub few : l.lines ≤ 64
-  pub room : places ≡ 3 * (l.lines * length t.firsts.now)
+  pub places : size ≡ 3 * (l.lines * length t.firsts.now)

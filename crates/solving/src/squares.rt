@@ -1,8 +1,9 @@
 // Least-squares poles of lines of data (`least_squares`): the normal equations A'A x = A'b, factored once for all the lines.
 ghost use Rattle.std.specs.Prelude.{◌≡◌, ℕ, ◌+◌, ◌*◌, ◌≤◌, List, length, Float};
+ghost use Rattle.std.specs.List.{list_all};
 ghost use Rattle.places.specs.Loops.{each};
-ghost use Rattle.places.specs.Places.{joined, all_below};
-ghost use Rattle.geometry.specs.Doubles.{at, is_finite};
+ghost use Rattle.places.specs.Places.{joined};
+ghost use Rattle.geometry.specs.Doubles.{is_finite};
 ghost use Rattle.knots.specs.OnLines.{on_line, on_lines};
 ghost use Rattle.cholesky.specs.Cholesky.{substitute_symmetric_band};
 ghost use Rattle.cholesky.specs.Together.{EachLine};
@@ -21,6 +22,7 @@ use tables::basis_table::{Row, Table};
 const RELATIVE_FLOOR: f64 = 1e-12;
 
 // The row's value a with each value up to itself, onto the matrix.
+#[tactic(auto, using(bands::proofs::Rows::loops, crate::proofs::SquareLaws::pole_row), unfolding(crate::specs::Steps::add_row_value, crate::specs::Steps::add_row_product))]
 fn add_value(band: &mut [f64], row: Row, a: usize)
     requires { OntoBand row band.old × (a ≤ row.degree) }
     ensures { band.new ≡ add_row_value row.entry.degree row.entry.first row.entry.values.now a band.old }
@@ -36,6 +38,7 @@ fn add_value(band: &mut [f64], row: Row, a: usize)
 }
 
 // The products of one row of degree 3, with every number of places known to the compiler.
+#[tactic(auto, using(bands::proofs::Rows::loops))]
 fn add_four(band: &mut [f64], first: usize, values: &[f64])
     requires { (length values.now ≡ 4) × ((first + 3) * 4 + 4 ≤ length band.old) }
     ensures { band.new ≡ each 0 4 (add_row_value 3 first values.now) band.old }
@@ -52,6 +55,7 @@ fn add_four(band: &mut [f64], first: usize, values: &[f64])
 }
 
 // The products of one row.
+#[tactic(auto, using(bands::proofs::Rows::loops))]
 fn add_row(band: &mut [f64], row: Row)
     requires { OntoBand row band.old }
     ensures { band.new ≡ each 0 (row.entry.degree + 1) (add_row_value row.entry.degree row.entry.first row.entry.values.now) band.old }
@@ -66,6 +70,7 @@ fn add_row(band: &mut [f64], row: Row)
 }
 
 // The lower half-band of A'A.
+#[tactic(auto, using(crate::proofs::SquareLaws::rows))]
 pub fn normal_matrix(table: &Table, band: &mut [f64])
     requires { HasTable table.now × (length band.old ≡ table.now.poles * (table.now.degree + 1)) }
     ensures { band.new ≡ normal_matrix (table_of table.now) table.now.poles }
@@ -77,6 +82,7 @@ pub fn normal_matrix(table: &Table, band: &mut [f64])
 }
 
 // q times the values of one row, onto the poles.
+#[tactic(auto, using(bands::proofs::Rows::loops), unfolding(crate::specs::Steps::add_to_pole))]
 fn add_datum(poles: &mut [f64], row: Row, q: Point)
     requires { OntoPoles row poles.old }
     ensures { poles.new ≡ each 0 (row.entry.degree + 1) (add_to_pole row.entry.first q row.entry.values.now) poles.old }
@@ -89,6 +95,7 @@ fn add_datum(poles: &mut [f64], row: Row, q: Point)
 }
 
 // A'b for a line.
+#[tactic(auto, using(crate::proofs::SquareLaws::points))]
 pub fn right_hand(table: &Table, line: Line, poles: &mut [f64])
     requires { HasPoints table.now line × (length poles.old ≡ 3 * table.now.poles) }
     ensures { poles.new ≡ right_hand (table_of table.now) table.now.poles (on_line line.entry) }
@@ -127,14 +134,9 @@ fn solve_lines(table: &Table, lines: Lines, lower: &[f64], poles: &mut [f64])
 
 // Whether no value of the list is NaN or infinite.
 pub fn all_finite(list: &[f64]) -> bool
-    ensures { result ≡ all_below (length list.now) (λ (i : ℕ). is_finite (at list.now i)) }
+    ensures { result ≡ list_all is_finite list.now }
 {
-    for x in list {
-        if !geometry::doubles::is_finite(*x) {
-            return false;
-        }
-    }
-    true
+    list.iter().all(|x| geometry::doubles::is_finite(*x))
 }
 
 // Least-squares poles of each line, one after the other; false where the data leaves a pole (nearly) undetermined or not finite. The matrix stands in `band`.

@@ -12,6 +12,7 @@ use knots::lines::{Line, Lines};
 use tables::basis_table::{Row, Table};
 
 // Puts x for A[j][column] of a band of half-width h, unless that is outside the band.
+#[tactic(auto, unfolding(crate::specs::Interpolation::put_within))]
 fn put_within(band: &mut [f64], h: usize, j: usize, column: usize, x: f64)
     requires { (column + h < 2 ^ 64) × HasRow (2 * h + 1) band.old j }
     ensures { band.new ≡ put_within h j column x band.old }
@@ -22,6 +23,7 @@ fn put_within(band: &mut [f64], h: usize, j: usize, column: usize, x: f64)
 }
 
 // Row j of the matrix, from a row of the table.
+#[tactic(auto, using(bands::proofs::Rows::loops), unfolding(crate::specs::Through::put_column))]
 fn put_row(band: &mut [f64], h: usize, j: usize, row: Row)
     requires { (row.first + row.degree + 1 + h < 2 ^ 64) × HasRow (2 * h + 1) band.old j }
     ensures { band.new ≡ each 0 (row.entry.degree + 1) (put_column h j row.entry.first row.entry.values.now) band.old }
@@ -32,6 +34,7 @@ fn put_row(band: &mut [f64], h: usize, j: usize, row: Row)
 }
 
 // The matrix, of half-bandwidth degree - 1.
+#[tactic(auto, using(crate::proofs::ThroughLaws::rows))]
 pub fn interpolation_matrix(table: &Table, band: &mut [f64])
     requires { HasMatrix table.now (length band.old) }
     ensures { band.new ≡ interpolation_matrix (table_of table.now) }
@@ -43,6 +46,7 @@ pub fn interpolation_matrix(table: &Table, band: &mut [f64])
 }
 
 // A line's points.
+#[tactic(auto, using(tables::proofs::PointsLaws::filling))]
 fn put_line(line: Line, poles: &mut [f64])
     requires { length poles.old ≡ 3 * line.count }
     ensures { poles.new ≡ points_of line.entry.count (on_line line.entry) }
@@ -53,6 +57,7 @@ fn put_line(line: Line, poles: &mut [f64])
 }
 
 // A line's poles, with the factored matrix of half-width h: the end poles are the end points.
+#[tactic(auto, unfolding(crate::specs::Interpolation::line_through))]
 pub fn interpolated_line(line: Line, h: usize, band: &[f64], poles: &mut [f64])
     requires { (h ≤ 25) × (line.count * (2 * h + 1) ≤ length band.now) × (length poles.old ≡ 3 * line.count) }
     ensures { poles.new ≡ line_through h line.entry.count band.now (on_line line.entry) }

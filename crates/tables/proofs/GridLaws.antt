@@ -1,18 +1,13 @@
 -- A grid's distances, row by row, as the program finds them. Assumes nothing.
 use mathlib.Core.Path.{◌≡◌, refl, sym, ◌∙◌, ap}
-use mathlib.Core.List.{List}
-use mathlib.Core.Logic.{⊎_elim}
-use Prim.Native.Nat.{ℕ, ◌+◌, ◌-◌, ◌*◌, ◌≤◌, ◌<◌}
-use native.Mathlib.Nat.{ne_of_lt, eq-or-lt_of_le}
+use mathlib.Core.List.{List, []}
+use Prim.Native.Nat.{ℕ, ◌+◌, ◌*◌, ◌≤◌, ◌<◌}
 use native.Mathlib.Omega.{arith}
 use lib.Dec.{T}
-use lib.ListN.{length, set, replicate, length-set}
-use lib.Seq.{get_or-set_same, get_or-set_other, take-set-le, drop-set-lt, ext_get_or}
+use lib.ListN.{length, set, replicate}
 use lib.Ieee.{Float, nan, binary64, fits}
 use Rattle.places.specs.Places.{laid, list_of, joined}
-use Rattle.places.specs.Regions.{part, splice}
-use Rattle.places.proofs.PlaceLaws.{laid-at, laid_same, laid-laid, laid_region, list_of-replicate, list_of-at, list_of-same, length-list_of, length-joined, joined-more, joined_same, joined_at}
-use Rattle.places.proofs.RegionLaws.{get_d_part, get_d_after, length_part, part-splice}
+use Rattle.places.proofs.PlaceLaws.{laid_none, laid0-next, list_of-replicate, row_inside, list_of-at, list_of-same, length-list_of, length-joined, joined-more, joined_same, joined_at}
 use Rattle.geometry.specs.declared.Point.{Point}
 use Rattle.geometry.specs.Doubles.{at, nought, larger, largest}
 use Rattle.geometry.specs.Points.{squared_distance, distance, point_at, coordinates, points_of}
@@ -20,17 +15,14 @@ use Rattle.geometry.specs.Root.{sqrt_of, roots_of}
 use Rattle.geometry.proofs.PointLaws.{weighted-same, distance_root, squared-fits}
 use Rattle.geometry.proofs.Folds.{largest-none, largest-more}
 use Rattle.geometry.proofs.Roots.{roots-list_of, roots-joined, held-list_of, held-joined}
-use Rattle.tables.specs.declared.Table.{Table}
+use Rattle.knots.proofs.ParameterLaws.{laid-whole}
 use Rattle.tables.specs.declared.Measured.{Measured}
-use Rattle.tables.specs.BasisTable.{BasisTable, first, value, table_point}
+use Rattle.tables.specs.BasisTable.{BasisTable, parameter_count, first, value, table_point}
 use Rattle.tables.specs.Deviations.{row_distances, curve_poles, grid_distances, largest_over_rows, largest_over_columns}
 use Rattle.tables.specs.Directions.{transposed}
-use Rattle.tables.specs.Layout.{table_in, Kept, HasFit}
-use Rattle.tables.specs.Measures.{measured, with_all, squares_measured, rooted, square_from_line, curve_of, HasGrid, LeavesSquares, grid_distances_in}
-use Rattle.tables.proofs.KeptLaws.{kept-laid, kept-splice, kept_wider, kept_then, kept_table}
-use Rattle.tables.proofs.MeasureLaws.{squares-append, squares-few, rooted-measured, rooted-largest, part-laid_region}
-use Rattle.tables.proofs.ReadingLaws.{count_in, degree_in, read_kept}
-use Rattle.tables.proofs.SpliceLaws.{length-points, points-same}
+use Rattle.tables.specs.Measures.{measured, with_all, squares_measured, rooted, curve_of, LeavesSquares}
+use Rattle.tables.proofs.MeasureLaws.{squares-append, squares-few, squares_listed, rooted-measured, rooted-largest}
+use Rattle.tables.proofs.PointsLaws.{length-points, points-same}
 
 -- rows of values; of squares, measured one after the other
 abbrev pub Rows : (ℕ → ℕ → Float) → ℕ → ℕ → List Float
@@ -69,85 +61,62 @@ module _ (S : ℕ → ℕ → Float) (held : (i j : ℕ) → T (fits binary64 (S
   row-rooted : (i : ℕ) → i < rows → sqrt_of (largest (list_of cols (S i))) ≡ largest (list_of cols (λ j. at ds (i * cols + j)))
   row-rooted i h = rooted-largest cols (S i) (held i) ∙ ap largest (list_of-same cols _ _ (λ j l. root-at i j h l))
 
--- ---- a grid's rows against their own poles
-module _ (f : Float) (t : Table) (index : List ℕ) (points : List Float) (rows m poles out : ℕ) where
-  -- point j of row i: its place on the fit, and the square of its distance
-  abbrev row_point : List Float → ℕ → ℕ → Point
-  row_point w i j = table_point (table_in t w index) (part poles (poles + 3 * (rows * m)) w) (i * m) j
+-- the first rows' squares, measured so far
+module _ (S : ℕ → ℕ → Float) (cols : ℕ) where
+  pub measured-start : (total : Measured) → total ≡ squares_measured [] → total ≡ squares_measured (Rows S cols 0)
+  unfolding joined
+  measured-start total e = e
 
-  abbrev pub row_square : List Float → ℕ → ℕ → Float
-  row_square w = square_from_line f (table_in t w index) m (part poles (poles + 3 * (rows * m)) w) points t.count
+  -- with one row more, the counts of NaN stay small
+  pub both_few : (rows i n : ℕ) (g : ℕ → Float) (total row : Measured) → i < rows → n ≡ cols → total ≡ squares_measured (Rows S cols i) → row ≡ squares_measured (list_of n g) → total.unreadable + row.unreadable ≤ rows * cols
+  both_few rows i n g total row h z e k = omega (arith, rows_few S cols i total e, squares_listed n g row k, row_inside i rows cols h)
 
-  -- the largest square of each column over the first i rows
-  abbrev pub column_largest : List Float → ℕ → ℕ → Float
-  column_largest w i j = largest (list_of i (λ k. row_square w k j))
+-- ---- a grid's rows against their own poles: each column's largest square
+module _ (S : ℕ → ℕ → Float) (cols : ℕ) where
+  abbrev pub column_largest : ℕ → ℕ → Float
+  column_largest i j = largest (list_of i (λ k. S k j))
 
-  point-kept : (w w' : List Float) → HasFit t rows m poles out t.count w index → Kept out (out + t.count) w w' → (i j : ℕ) → row_point w' i j ≡ row_point w i j
-  point-kept w w' x k i j = read_kept out (out + t.count) w w' k t index poles (poles + 3 * (rows * m)) (i * m) j x.values_before (omega arith) x.poles_before
+  -- what the loop keeps
+  pub record RowsTo (i : ℕ) (squares : List Float) (total : Measured) : Type 0 where
+    pub put : squares ≡ list_of cols (column_largest i)
+    pub measures : total ≡ squares_measured (Rows S cols i)
 
-  square-kept : (w w' : List Float) → HasFit t rows m poles out t.count w index → Kept out (out + t.count) w w' → (i j : ℕ) → row_square w' i j ≡ row_square w i j
-  square-kept w w' x k i j = ap (λ (p : Point). squared_distance f p (point_at points (i * t.count + j))) (point-kept w w' x k i j)
+  pub rows_start : (n : ℕ) (squares : List Float) (total : Measured) → n ≡ cols → squares ≡ replicate n nought → total ≡ squares_measured [] → RowsTo 0 squares total
+  rows_start n squares total z e g = record {
+    put = e ∙ ap (λ (k : ℕ). replicate k nought) z ∙ sym (list_of-replicate cols nought) ∙ list_of-same cols _ (column_largest 0) (λ j l. sym (largest-none (λ k. S k j)));
+    measures = measured-start S cols total g;
+  }
 
-  pub row-measured : (w w' : List Float) (i : ℕ) (row : Measured) → HasFit t rows m poles out t.count w index → w' ≡ laid out t.count (column_largest w i) w
-      → row ≡ squares_measured (list_of t.count (row_square w' i)) → row ≡ squares_measured (list_of t.count (row_square w i))
-  row-measured w w' i row x e g =
-      g
-      ∙ ap squares_measured (list_of-same t.count (row_square w' i) (row_square w i) (λ j l. square-kept w w' x (rw e (kept-laid out t.count (column_largest w i) w x.room)) i j))
+  pub rows-turn : (n i : ℕ) (now next : List Float) (total row more : Measured) → RowsTo i now total → n ≡ cols
+      → next ≡ list_of n (λ j. larger (at now j) (S i j)) → row ≡ squares_measured (list_of n (S i)) → more ≡ with_all total row
+      → RowsTo (i + 1) next more
+  rows-turn n i now next total row more g z e h k = record {
+    put = e
+        ∙ ap (λ (m : ℕ). list_of m (λ j. larger (at now j) (S i j))) z
+        ∙ list_of-same cols _ (column_largest (i + 1)) (λ j l. rw (g.put, list_of-at cols (column_largest i) j nan l) (sym (largest-more i (λ k. S k j))));
+    measures = rows-measured S cols i total row more g.measures (h ∙ ap (λ (m : ℕ). squares_measured (list_of m (S i))) z) k;
+  }
 
-  pub rows-turn : (w w₁ w₂ : List Float) (i : ℕ) → HasFit t rows m poles out t.count w index → w₁ ≡ laid out t.count (column_largest w i) w
-      → w₂ ≡ laid out t.count (λ j. larger (at w₁ (out + j)) (row_square w₁ i j)) w₁
-      → w₂ ≡ laid out t.count (column_largest w (i + 1)) w
-  rows-turn w w₁ w₂ i x e₁ e₂ =
-      let kept : Kept out (out + t.count) w w₁ = rw e₁ (kept-laid out t.count (column_largest w i) w x.room) in
-      let old : (j : ℕ) → j < t.count → at w₁ (out + j) ≡ column_largest w i j =
-      λ j l. ap (λ (v : List Float). at v (out + j)) e₁ ∙ laid-at out t.count (column_largest w i) w j nan l x.room in
-      e₂
-      ∙ laid_same out t.count _ (column_largest w (i + 1)) w₁ (λ j l. rw (old j l, square-kept w w₁ x kept i j) (sym (largest-more i (λ k. row_square w k j))))
-      ∙ ap (λ (v : List Float). laid out t.count (column_largest w (i + 1)) v) e₁
-      ∙ laid-laid out t.count (column_largest w (i + 1)) (column_largest w i) w
+-- point j of row i: the square of its distance
+abbrev pub row_square : Float → BasisTable → ℕ → List Float → List Float → ℕ → ℕ → Float
+row_square f t m poles s i j = squared_distance f (table_point t poles (i * m) j) (point_at s (i * parameter_count t + j))
 
-  -- the columns' region, cleared
-  pub rows_cleared : (w ys : List Float) → out + t.count ≤ length w → ys ≡ replicate (length (part out (out + t.count) w)) nought
-      → splice out (out + t.count) ys w ≡ laid out t.count (λ (k : ℕ). nought) w
-  rows_cleared w ys room e =
-      let long : length (part out (out + t.count) w) ≡ t.count = length_part out (out + t.count) w room ∙ omega arith in
-      ap (λ (l : List Float). splice out (out + t.count) l w) (e ∙ ap (λ (k : ℕ). replicate k nought) long ∙ sym (list_of-replicate t.count nought))
-      ∙ sym (laid_region out t.count (λ (k : ℕ). nought) w room)
-
-  pub rows_start : (w₀ w : List Float) → w ≡ laid out t.count (λ (k : ℕ). nought) w₀ → w ≡ laid out t.count (column_largest w 0) w
-  rows_start w₀ w e =
-      e ∙ sym (
-      laid_same out t.count (column_largest w 0) (λ (k : ℕ). nought) w (λ j l. largest-none (λ k. row_square w k j))
-      ∙ ap (λ (v : List Float). laid out t.count (λ (k : ℕ). nought) v) e
-      ∙ laid-laid out t.count (λ (k : ℕ). nought) (λ (k : ℕ). nought) w₀)
-
-  -- the definition's distances are the roots
-  rows_inside : (w₀ w : List Float) → HasFit t rows m poles out t.count w₀ index → Kept out (out + t.count) w₀ w
-      → row_distances f rows (table_in t w₀ index) m (part poles (poles + 3 * (rows * m)) w₀) points ≡ Rows (λ i j. sqrt_of (row_square w i j)) t.count rows
-  unfolding row_distances
-  rows_inside w₀ w x k =
-      rw (count_in t w₀ index x.table.firsts_in)
-      (joined_same rows _ _ (λ i h. list_of-same t.count _ (λ j. sqrt_of (row_square w i j))
-      (λ j l. distance_root f (row_point w₀ i j) (point_at points (i * t.count + j)) ∙ ap sqrt_of (sym (square-kept w₀ w x k i j)))))
-
-  pub rows_done : (w₀ w w₁ : List Float) (total r : Measured) → HasFit t rows m poles out t.count w₀ index → w ≡ laid out t.count (λ (k : ℕ). nought) w₀
-      → w₁ ≡ laid out t.count (column_largest w rows) w → total ≡ squares_measured (Rows (row_square w) t.count rows) → r ≡ rooted total
-      → LeavesSquares t.count out out (largest_over_rows rows t.count) (row_distances f rows (table_in t w₀ index) m (part poles (poles + 3 * (rows * m)) w₀) points) w₀ w₁ r
-  rows_done w₀ w w₁ total r x e e₁ g h =
-      let n : ℕ = t.count in
-      let kept : Kept out (out + n) w₀ w = rw e (kept-laid out n (λ (k : ℕ). nought) w₀ x.room) in
-      let room : out + n ≤ length w = omega (arith, x.room, kept.long) in
-      let held : (i j : ℕ) → T (fits binary64 (row_square w i j)) = λ i j. squared-fits f (row_point w i j) (point_at points (i * n + j)) in
-      let found = rows_inside w₀ w x kept in
-      record {
-        measures = rows-rooted (row_square w) held rows n _ found total r g h;
-        deviations =
-            ap (λ (v : List Float). roots_of (part out (out + n) v)) e₁
-            ∙ ap roots_of (part-laid_region out n (column_largest w rows) w room)
-            ∙ roots-list_of n (column_largest w rows)
-            ∙ list_of-same n (λ j. sqrt_of (column_largest w rows j)) _ (λ j l. column-rooted (row_square w) held rows n _ found j l);
-        kept = kept_then out (out + n) w₀ w w₁ kept (rw e₁ (kept-laid out n (column_largest w rows) w room));
-      }
+-- the definition's distances are the roots
+pub rows_done : (f : Float) (t : BasisTable) (m : ℕ) (poles s : List Float) (rows n : ℕ) (squares : List Float) (total r : Measured)
+    → n ≡ parameter_count t → RowsTo (row_square f t m poles s) (parameter_count t) rows squares total → r ≡ rooted total
+    → LeavesSquares (largest_over_rows rows n) (row_distances f rows t m poles s) squares r
+unfolding row_distances
+rows_done f t m poles s rows n squares total r z g h =
+    let S = row_square f t m poles s in
+    let cols : ℕ = parameter_count t in
+    let held : (i j : ℕ) → T (fits binary64 (S i j)) = λ i j. squared-fits f (table_point t poles (i * m) j) (point_at s (i * cols + j)) in
+    let found : row_distances f rows t m poles s ≡ Rows (λ i j. sqrt_of (S i j)) cols rows =
+    joined_same rows _ _ (λ i k. list_of-same cols _ _ (λ j l. distance_root f (table_point t poles (i * m) j) (point_at s (i * cols + j)))) in
+    rw z
+    (record {
+      measures = rows-rooted S held rows cols _ found total r g.measures h;
+      deviations = ap roots_of g.put ∙ roots-list_of cols (column_largest S cols rows) ∙ list_of-same cols _ _ (λ j l. column-rooted S held rows cols _ found j l);
+    })
 
 -- ---- points of lists of points
 -- point j of row i, of rows of w points
@@ -188,88 +157,62 @@ curve_inside u columns m poles i h =
     (λ a j. refl)
     (λ a j. let z : l * m + (first u i + a) ≡ l * m + first u i + a = omega arith in transposed-at columns m poles (first u i + a) l (omega arith) g ∙ ap (point_at poles) z))
 
-module _ (f : Float) (u v : Table) (index : List ℕ) (points : List Float) (columns m poles curve out : ℕ) where
-  abbrev pub curve_in : List Float → ℕ → List Float
-  curve_in w i = curve_of (table_in u w index) columns m (part poles (poles + 3 * (columns * m)) w) i
+-- point j of row i: the square of its distance
+abbrev pub grid_square : Float → BasisTable → BasisTable → ℕ → ℕ → List Float → List Float → ℕ → ℕ → Float
+grid_square f u v columns m poles s i j = squared_distance f (table_point v (curve_of u columns m poles i) 0 j) (point_at s (i * parameter_count v + j))
 
-  abbrev pub grid_square : List Float → ℕ → ℕ → Float
-  grid_square w i j = squared_distance f (table_point (table_in v w index) (curve_in w i) 0 j) (point_at points (i * v.count + j))
+module _ (f : Float) (u v : BasisTable) (columns m : ℕ) (poles s : List Float) where
+  abbrev S : ℕ → ℕ → Float
+  S = grid_square f u v columns m poles s
 
-  abbrev pub row_largest : List Float → ℕ → Float
-  row_largest w i = largest (list_of v.count (grid_square w i))
+  abbrev cols : ℕ
+  cols = parameter_count v
+
+  abbrev row_largest : ℕ → Float
+  row_largest i = largest (list_of cols (S i))
 
   -- what the loop keeps
-  pub record GridTo (w w' : List Float) (total : Measured) (i : ℕ) : Type 0 where
-    pub kept : Kept curve (out + u.count) w w'
-    pub put : (k : ℕ) → k < i → at w' (out + k) ≡ row_largest w k
-    pub measures : total ≡ squares_measured (Rows (grid_square w) v.count i)
+  pub record GridTo (old : List Float) (i : ℕ) (squares : List Float) (total : Measured) : Type 0 where
+    pub put : squares ≡ laid 0 i row_largest old
+    pub measures : total ≡ squares_measured (Rows S cols i)
 
-  pub grid-turn : (w w₁ w₂ : List Float) (total row more : Measured) (i : ℕ) → HasGrid u v columns m poles curve out points w index → i < u.count
-      → GridTo w w₁ total i
-      → w₂ ≡ splice curve (curve + 3 * columns) (curve_in w₁ i) w₁
-      → row ≡ squares_measured (list_of v.count (λ j. squared_distance f (table_point (table_in v w₂ index) (part curve (curve + 3 * columns) w₂) 0 j) (point_at points (i * v.count + j))))
+  pub grid_start : (old : List Float) (total : Measured) → total ≡ squares_measured [] → GridTo old 0 old total
+  grid_start old total e = record { put = sym (laid_none 0 row_largest old); measures = measured-start S cols total e }
+
+  -- a row more: its squares are those from the curve
+  pub grid-turn : (i : ℕ) (old now curve : List Float) (total row more : Measured) → GridTo old i now total → curve ≡ curve_of u columns m poles i
+      → row ≡ squares_measured (list_of cols (λ j. squared_distance f (table_point v curve 0 j) (point_at s (i * cols + j))))
       → more ≡ with_all total row
-      → GridTo w (set w₂ (out + i) row.largest) more (i + 1)
+      → GridTo old (i + 1) (set now i row.largest) more
   unfolding squares_measured
-  grid-turn w w₁ w₂ total row more i x h g e r a =
-      let to : ℕ = curve + 3 * columns in
-      let last : ℕ = out + u.count in
-      let room : last ≤ length w = omega (arith, x.fit.room, x.behind) in
-      let long : length w₁ ≡ length w = g.kept.long in
-      let same : curve_in w₁ i ≡ curve_in w i =
-      points-same columns _ _ (λ l q. read_kept curve last w w₁ g.kept u index poles (poles + 3 * (columns * m)) (l * m) i x.fit.values_before (omega arith) x.fit.poles_before) in
-      let size : length (curve_in w i) ≡ to - curve = length-points columns _ ∙ omega arith in
-      let made : w₂ ≡ splice curve to (curve_in w i) w₁ = e ∙ ap (λ (ys : List Float). splice curve to ys w₁) same in
-      let fits : to ≤ length w₁ = omega (arith, x.behind) in
-      let kept₂ : Kept curve last w w₂ =
-      kept_then curve last w w₁ w₂ g.kept (rw made (kept_wider curve to curve last w₁ (splice curve to (curve_in w i) w₁) (omega arith) (omega (arith, x.behind)) (kept-splice curve to (curve_in w i) w₁ (omega arith) fits size))) in
-      let read : part curve to w₂ ≡ curve_in w i = ap (part curve to) made ∙ part-splice curve to (curve_in w i) w₁ (omega arith) fits size in
-      let row' : row ≡ squares_measured (list_of v.count (grid_square w i)) =
-      r ∙ rw (read, kept_table curve last w w₂ kept₂ v index x.across_before) in
-      let inside : out + i < length w₂ = omega (arith, kept₂.long) in
+  grid-turn i old now curve total row more g e h k =
+      let row' : row ≡ squares_measured (list_of cols (S i)) = rw e at h in
       record {
-        kept =
-            kept_then curve last w w₂ (set w₂ (out + i) row.largest) kept₂
-            (record { long = length-set w₂ (out + i) row.largest; front = take-set-le curve w₂ (out + i) row.largest (omega (arith, x.behind)); back = drop-set-lt last w₂ (out + i) row.largest (omega arith) });
-        put =
-            λ k l. ⊎_elim
-            (λ (z : k ≡ i). rw z (get_or-set_same w₂ (out + i) row.largest nan inside ∙ ap (λ (y : Measured). y.largest) row'))
-            (λ (z : k < i). get_or-set_other w₂ (out + i) (out + k) row.largest nan (ne_of_lt (omega arith))
-            ∙ ap (λ (y : List Float). at y (out + k)) made
-            ∙ get_d_after curve to (curve_in w i) w₁ (omega arith) fits size nan (out + k) (omega (arith, x.behind))
-            ∙ g.put k z)
-            (eq-or-lt_of_le (omega arith));
-        measures = rows-measured (grid_square w) v.count i total row more g.measures row' a;
+        put = laid0-next i row_largest old now row.largest g.put (ap (λ (y : Measured). y.largest) row');
+        measures = rows-measured S cols i total row more g.measures row' k;
       }
 
   -- the definition's distances are the roots
-  grid_in : (w : List Float) → HasGrid u v columns m poles curve out points w index
-      → grid_distances_in f u v columns m poles points w index ≡ Rows (λ i j. sqrt_of (grid_square w i j)) v.count u.count
+  grid_distances-are : (rows : ℕ) → rows ≡ parameter_count u → ((i : ℕ) → i < rows → first u i + u.degree < m)
+      → grid_distances f u v columns (transposed columns m poles) s ≡ Rows (λ i j. sqrt_of (S i j)) cols rows
   unfolding grid_distances
-  grid_in w x =
-      rw (count_in u w index x.fit.table.firsts_in, count_in v w index x.across.firsts_in)
-      (joined_same u.count _ (λ i. list_of v.count (λ j. sqrt_of (grid_square w i j)))
-      (λ i h. list_of-same v.count _ (λ j. sqrt_of (grid_square w i j))
-      (λ j l. ap (λ (c : List Float). distance f (table_point (table_in v w index) c 0 j) (point_at points (i * v.count + j))) (curve_inside (table_in u w index) columns m (part poles (poles + 3 * (columns * m)) w) i (rw degree_in (x.fit.table.poles i h)))
-      ∙ distance_root f (table_point (table_in v w index) (curve_in w i) 0 j) (point_at points (i * v.count + j)))))
+  grid_distances-are rows z inside =
+      rw (← z)
+      (joined_same rows _ (λ i. list_of cols (λ j. sqrt_of (S i j)))
+      (λ i h. list_of-same cols _ (λ j. sqrt_of (S i j))
+      (λ j l. ap (λ (c : List Float). distance f (table_point v c 0 j) (point_at s (i * cols + j))) (curve_inside u columns m poles i (inside i h))
+      ∙ distance_root f (table_point v (curve_of u columns m poles i) 0 j) (point_at s (i * cols + j)))))
 
-  pub grid_done : (w w' : List Float) (total r : Measured) → HasGrid u v columns m poles curve out points w index → GridTo w w' total u.count → r ≡ rooted total
-      → LeavesSquares u.count curve out (largest_over_columns u.count v.count) (grid_distances_in f u v columns m poles points w index) w w' r
-  grid_done w w' total r x g h =
-      let rows : ℕ = u.count in
-      let held : (i j : ℕ) → T (fits binary64 (grid_square w i j)) =
-      λ i j. squared-fits f (table_point (table_in v w index) (curve_in w i) 0 j) (point_at points (i * v.count + j)) in
-      let found = grid_in w x in
-      let room : out + rows ≤ length w' = omega (arith, x.fit.room, x.behind, g.kept.long) in
-      let size : length (part out (out + rows) w') ≡ rows = length_part out (out + rows) w' room ∙ omega arith in
-      let stands : part out (out + rows) w' ≡ list_of rows (row_largest w) =
-      ext_get_or nan _ _ (size ∙ sym (length-list_of rows _))
-      (λ i h. let l : i < rows = omega (arith, size) in get_d_part out (out + rows) w' i nan (omega arith) ∙ g.put i l ∙ sym (list_of-at rows (row_largest w) i nan l)) in
+  pub grid_done : (rows : ℕ) (old squares : List Float) (total r : Measured) → rows ≡ parameter_count u → ((i : ℕ) → i < rows → first u i + u.degree < m) → length old ≡ rows
+      → GridTo old rows squares total → r ≡ rooted total
+      → LeavesSquares (largest_over_columns rows cols) (grid_distances f u v columns (transposed columns m poles) s) squares r
+  grid_done rows old squares total r z inside long g h =
+      let held : (i j : ℕ) → T (fits binary64 (S i j)) = λ i j. squared-fits f (table_point v (curve_of u columns m poles i) 0 j) (point_at s (i * cols + j)) in
+      let found = grid_distances-are rows z inside in
       record {
-        measures = rows-rooted (grid_square w) held rows v.count _ found total r g.measures h;
+        measures = rows-rooted S held rows cols _ found total r g.measures h;
         deviations =
-            ap roots_of stands
-            ∙ roots-list_of rows (row_largest w)
-            ∙ list_of-same rows (λ i. sqrt_of (row_largest w i)) _ (λ i l. row-rooted (grid_square w) held rows v.count _ found i l);
-        kept = g.kept;
+            ap roots_of (g.put ∙ laid-whole rows row_largest old long)
+            ∙ roots-list_of rows row_largest
+            ∙ list_of-same rows (λ i. sqrt_of (row_largest i)) _ (λ i l. row-rooted S held rows cols _ found i l);
       }

@@ -10,7 +10,6 @@ use lib.ListN.{length, set, drop, drop_of_length-le}
 use Rattle.places.specs.Places.{list_of, joined}
 use Rattle.places.specs.Regions.{part, splice}
 use Rattle.places.proofs.PlaceLaws.{length-list_of, list_of-at, list_of-same, list_of_all, joined_at, length-joined, list_of-next, joined-next}
-use Rattle.places.proofs.RegionLaws.{length_part, length-splice, part-splice}
 use Rattle.geometry.specs.Doubles.{at}
 use Rattle.geometry.specs.Points.{point_at}
 use Rattle.geometry.proofs.PointLaws.{weighted-same}
@@ -21,9 +20,9 @@ use Rattle.bspline.proofs.AgreeLaws.{spans_agree}
 use Rattle.bspline.specs.Basis.{basis_at}
 use Rattle.bspline.proofs.SpanLaws.{span_before-next, span_before-in}
 use Rattle.bspline.proofs.Recurrence.{length-basis_at}
-use Rattle.tables.specs.declared.Table.{Table}
-use Rattle.tables.specs.BasisTable.{BasisTable, basis_table, first, value, table_point}
-use Rattle.tables.specs.Layout.{table_in, FillsTable, HasTable}
+use Rattle.tables.specs.declared.basis_table.Table.{Table}
+use Rattle.tables.specs.BasisTable.{basis_table, first, value, table_point}
+use Rattle.tables.specs.Layout.{FillsTable, Filled}
 
 abbrev pub first_at : List Float → ℕ → List Float → ℕ → ℕ
 first_at flat d params k = span_at flat d params k - d
@@ -96,6 +95,10 @@ pub length_rows : (flat : List Float) (d : ℕ) (params : List Float) → length
 unfolding basis_table
 length_rows flat d params = length-list_of (length params) _
 
+length_values : (flat : List Float) (d : ℕ) (params : List Float) → length (basis_table flat d params).values ≡ length params * (d + 1)
+unfolding basis_table
+length_values flat d params = length-joined (length params) (d + 1) _ (λ k h. length-basis_at flat d _ _)
+
 -- the reader's point at a parameter is the table's: both find the same span, where the last has a width if a parameter stands at the range's end
 module _ (flat : List Float) (falls : NeverFalls flat) (d : ℕ) (long : 2 * d + 2 ≤ length flat) (params : List Float) (p : InRange flat d params) where
   pub point_read : (poles : List Float) (k : ℕ) → k < length params → (le (last_parameter flat d) (at params k) ≡ true → wide flat (length flat - d - 2) ≡ true)
@@ -119,46 +122,22 @@ table-poles flat d params k h l =
     let b = span_before-in flat d params (k + 1) h in
     omega (arith, list_of-at (length params) (first_at flat d params) k 0 l)
 
--- ---- what callers cite
-
-module _ (t : Table) (flat end params : ℕ) (w₀ w : List Float) (ix₀ ix : List ℕ) (fills : FillsTable t flat end params w₀ ix₀) where
-  abbrev made : BasisTable
-  made = basis_table (part flat end w₀) t.degree (part params (params + t.count) w₀)
-
-  parameters : length (part params (params + t.count) w₀) ≡ t.count
-  parameters = length_part params (params + t.count) w₀ (omega arith) ∙ omega arith
-
-  pub length-firsts : length made.firsts ≡ t.count
-  unfolding basis_table
-  length-firsts = length-list_of _ _ ∙ parameters
-
-  pub length-values : length made.values ≡ t.count * (t.degree + 1)
-  unfolding basis_table
-  length-values = length-joined _ (t.degree + 1) _ (λ k h. length-basis_at (part flat end w₀) t.degree _ _) ∙ ap (λ (n : ℕ). n * (t.degree + 1)) parameters
-
-  -- the table that stands where it was filled
-  pub table_filled : ix ≡ splice t.firsts (t.firsts + t.count) made.firsts ix₀ → w ≡ splice t.values (t.values + t.count * (t.degree + 1)) made.values w₀ → table_in t w ix ≡ made
-  unfolding table_in basis_table
-  table_filled e f =
-      let p : part t.firsts (t.firsts + t.count) ix ≡ made.firsts =
-      ap (part t.firsts (t.firsts + t.count)) e ∙ part-splice t.firsts (t.firsts + t.count) made.firsts ix₀ (omega arith) (omega arith) (length-firsts ∙ omega arith) in
-      let q : part t.values (t.values + t.count * (t.degree + 1)) w ≡ made.values =
-      ap (part t.values (t.values + t.count * (t.degree + 1))) f ∙ part-splice t.values (t.values + t.count * (t.degree + 1)) made.values w₀ (omega arith) (omega arith) (length-values ∙ omega arith) in
-      ap (λ (l : List ℕ). record { degree = t.degree; firsts = l; values = part t.values (t.values + t.count * (t.degree + 1)) w }) p
-      ∙ ap (λ (l : List Float). record { degree = t.degree; firsts = made.firsts; values = l }) q
-
-  -- so a table that was filled is one that can be read, on the poles of its knots
-  pub has_filled : 1 ≤ t.degree → t.degree ≤ 25 → 2 ≤ t.count → t.count ≤ 1024
-      → ix ≡ splice t.firsts (t.firsts + t.count) made.firsts ix₀ → w ≡ splice t.values (t.values + t.count * (t.degree + 1)) made.values w₀
-      → HasTable t (end - flat - t.degree - 1) w ix
-  has_filled low high some few e f =
-      let n : length (part flat end w₀) ≡ end - flat = length_part flat end w₀ (omega arith) in
-      record {
-        low = low;
-        high = high;
-        some = some;
-        few = few;
-        firsts_in = omega (arith, ap length e, length-splice t.firsts (t.firsts + t.count) made.firsts ix₀ (omega arith) (omega arith) (length-firsts ∙ omega arith));
-        values_in = omega (arith, ap length f, length-splice t.values (t.values + t.count * (t.degree + 1)) made.values w₀ (omega arith) (omega arith) (length-values ∙ omega arith));
-        poles = λ k h. rw (table_filled e f) (omega (arith, n, table-poles (part flat end w₀) t.degree (part params (params + t.count) w₀) k (omega arith) (omega (arith, parameters))));
-      }
+-- a table with these rows can be read, on the poles of its flat knots
+pub filled : (t t' : Table) (flat params : List Float) → FillsTable t flat params → t'.degree ≡ t.degree → t'.poles ≡ length flat - t.degree - 1
+    → t'.firsts.now ≡ (basis_table flat t.degree params).firsts → t'.values.now ≡ (basis_table flat t.degree params).values → Filled t t' flat params
+unfolding basis_table
+filled t t' flat params fills same poles firsts values =
+    let d = t.degree in
+    let n : length t'.firsts.now ≡ length params = ap length firsts ∙ length_rows flat d params in
+    record {
+      table = rw (same, firsts, values);
+      poles = poles;
+      has = record {
+        low = omega (arith, same, fills.low);
+        high = omega (arith, same, fills.high);
+        some = omega (arith, n, fills.some);
+        few = omega (arith, n, fills.few);
+        long = ap length values ∙ length_values flat d params ∙ rw (n, same);
+        poles = λ k h. rw (firsts, same, poles) (table-poles flat d params k fills.knots (omega (arith, n)));
+      };
+    }

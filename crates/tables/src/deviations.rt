@@ -33,6 +33,7 @@ impl Beside<'_, '_> {
     }
 
     // Each square in its place.
+    #[tactic(auto, using(crate::proofs::MeasureLaws::placing))]
     fn lay_squares(&self, squares: &mut [f64]) -> Measured
         requires { HasBeside self.now × (length squares.old ≡ length self.now.table.now.firsts.now) }
         ensures value { result ≡ squares_measured (list_of (length squares.old) (square_beside self.now)) }
@@ -48,6 +49,7 @@ impl Beside<'_, '_> {
     }
 
     // Each square in its place where it is larger than what stands there.
+    #[tactic(auto, using(crate::proofs::MeasureLaws::placing))]
     fn raise_squares(&self, squares: &mut [f64]) -> Measured
         requires { HasBeside self.now × (length squares.old ≡ length self.now.table.now.firsts.now) }
         ensures value { result ≡ squares_measured (list_of (length squares.old) (square_beside self.now)) }
@@ -62,6 +64,8 @@ impl Beside<'_, '_> {
         total
     }
 
+    // The squares' measures alone.
+    #[tactic(auto, using(crate::proofs::MeasureLaws::placing))]
     fn measure_squares(&self) -> Measured
         requires { HasBeside self.now }
         ensures { result ≡ squares_measured (list_of (length self.now.table.now.firsts.now) (square_beside self.now)) }
@@ -125,6 +129,7 @@ pub fn row_deviations(
 }
 
 // The poles of the v curve at u parameter i: column l's poles stand from pole l * u.poles on.
+#[tactic(auto, using(crate::proofs::PointsLaws::filling))]
 fn curve_poles(u: &Table, poles: &[f64], columns: usize, i: usize, curve: &mut [f64])
     requires { HasColumns u.now columns (length poles.now) × (i < length u.now.firsts.now) × (length curve.old ≡ 3 * columns) }
     ensures { curve.new ≡ curve_of (table_of u.now) columns u.now.poles poles.now i }

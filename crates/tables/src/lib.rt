@@ -18,6 +18,7 @@ impl Measured {
     ghost use Rattle.tables.specs.Measures.{squares_measured, with_all, with_square, rooted};
 
     // No distance yet.
+    #[tactic(auto, using(crate::proofs::MeasureLaws::squares_none))]
     pub fn none() -> Measured
         ensures { result ≡ squares_measured [] }
     {
@@ -28,6 +29,7 @@ impl Measured {
     }
 
     // With those of another list after its own.
+    #[tactic(auto, unfolding(crate::specs::Measures::with_all))]
     pub fn with_all(self, other: Measured) -> Measured
         requires { self.unreadable + other.unreadable < 2 ^ 64 }
         ensures { result ≡ with_all self other }
@@ -39,6 +41,7 @@ impl Measured {
     }
 
     // With one square of a distance more: one that has no root is passed over by the largest, and counted.
+    #[tactic(auto, using(geometry::proofs::RootOrder::root_nan), unfolding(crate::specs::Measures::with_square))]
     pub fn with_square(self, s: f64) -> Measured
         requires { self.unreadable + 1 < 2 ^ 64 }
         ensures { result ≡ with_square self s }
@@ -54,6 +57,7 @@ impl Measured {
     }
 
     // The measures of the distances themselves.
+    #[tactic(auto, unfolding(crate::specs::Measures::rooted))]
     pub fn rooted(self) -> Measured
         ensures { result ≡ rooted self }
     {

@@ -1,36 +1,30 @@
--- One line is solved by itself. Of several the right-hand sides stand one after the other, and are then solved together; the factor stands before them. Assumes nothing.
-use mathlib.Core.Path.{◌≡◌, ◌∙◌}
+-- The right-hand sides stand one after the other, and the substitution makes the poles of them, of one line or of several. Assumes nothing.
+use mathlib.Core.Path.{◌∙◌, ap}
 use mathlib.Core.List.{List}
-use Prim.Native.Nat.{ℕ, ◌+◌, ◌-◌, ◌*◌}
+use Prim.Native.Nat.{ℕ}
 use native.Mathlib.Omega.{arith}
-use lib.ListN.{drop}
 use lib.Ieee.{Float}
-use Rattle.places.specs.Regions.{part}
-use Rattle.places.proofs.RegionLaws.{part_same}
-use Rattle.bands.proofs.Lent.{front_is, back_is, front_part}
-use Rattle.cholesky.proofs.TogetherLaws.{each_then, lines-joined}
-use Rattle.solving.proofs.SquareLaws.{line_in, one_line}
+use Rattle.cholesky.specs.Cholesky.{substitute_symmetric_band}
+use Rattle.cholesky.proofs.TogetherLaws.{each_then}
+use Rattle.knots.specs.OnLines.{on_lines}
+use Rattle.tables.specs.Layout.{table_of}
+use Rattle.solving.specs.LeastSquares.{right_hand}
+use Rattle.solving.proofs.SquareLaws.{lines_fill, one_line}
 use Rattle.solving.proofs.squares.solve_lines.Goals as goal
 
-pub returns-then-given-eq1 : goal.returns-then-given-eq1
-returns-then-given-eq1 c =
+pub returns-then-lines-eq1 : goal.returns-then-lines-eq1
+returns-then-lines-eq1 c =
     let a = c.args in
-    one_line a.m a.poles a.given.lines (line_in a.table a.index.now a.points.now a.given a.m a.band a.work.now) a.work.now _ (omega arith) c.solve_line.ensures
+    let t = a.table.now in
+    let g : List Float → List Float = substitute_symmetric_band t.degree t.poles a.lower.now in
+    let f : ℕ → List Float = λ r. right_hand (table_of t) t.poles (on_lines a.lines r) in
+    c.substitute_symmetric_band.ensures
+    ∙ ap g (lines_fill t.poles a.lines.lines f a.poles.now _ c.requires.has_squares.places c.right_hands.ensures)
+    ∙ one_line a.lines.lines f g (omega arith)
 
 pub returns : goal.returns
 returns c =
-    let split = c.split_at_mut-head in
     let a = c.args in
-    let w : List Float = a.work.now in
-    let made : List Float = c.right_hands.new.work in
-    let front : List Float = split.result.0.now in
-    let back : List Float = split.result.1.now in
-    let end : ℕ = a.band + a.m * (a.table.degree + 1) in
-    let size : ℕ = 3 * (a.given.lines * a.m) in
-    let first = c.right_hands.ensures in
-    let factor : part a.band end front ≡ part a.band end w =
-    front_part a.poles front back made split.ensures.value split.ensures.front_len a.band end (omega arith) c.requires.matrix ∙ part_same a.poles w made first.front a.band end (omega arith) c.requires.matrix in
-    let solved = rw (factor, back_is a.poles front back made split.ensures.value split.ensures.front_len) at c.substitute_together.ensures in
-    let wide : a.poles + size - a.poles ≡ size = omega arith in
-    rw (front_is a.poles front back made split.ensures.value split.ensures.front_len, first.front, wide)
-    (rw (lines-joined a.m a.given.lines (line_in a.table a.index.now a.points.now a.given a.m a.band w) (drop a.poles w) _ (each_then first.lines solved)))
+    let t = a.table.now in
+    let f : ℕ → List Float = λ r. substitute_symmetric_band t.degree t.poles a.lower.now (right_hand (table_of t) t.poles (on_lines a.lines r)) in
+    lines_fill t.poles a.lines.lines f a.poles.now _ c.requires.has_squares.places (each_then c.right_hands.ensures c.substitute_together.ensures)

@@ -1,14 +1,13 @@
--- The invariant: the first r lines' poles stand at `poles`, solved with the factored matrix; all else is as it was. Assumes nothing.
-use mathlib.Core.Path.{◌≡◌}
-use Prim.Native.Nat.{◌+◌, ◌-◌, ◌*◌, ◌≤◌}
+-- Before turn r the poles of the first r lines stand in their places, and the others are as they were. Assumes nothing.
+use mathlib.Core.List.{List}
+use Prim.Native.Nat.{ℕ, ◌-◌}
 use lib.ListN.{length}
-use Rattle.places.specs.Places.{joined}
-use Rattle.places.specs.Regions.{splice}
-use Rattle.solving.proofs.ThroughLaws.{lines_to}
+use lib.Ieee.{Float}
+use Rattle.cholesky.proofs.TogetherLaws.{DoneTo}
+use Rattle.knots.specs.OnLines.{on_lines}
+use Rattle.solving.specs.Interpolation.{line_through}
 use Rattle.solving.proofs.through.interpolation.Given as goal
 
 abbrev pub invariant-loop-r : goal.invariant-loop-r
-invariant-loop-r l = (l.r ≤ l.lines) × (length l.work ≡ length l.initial.work) × (l.work ≡ splice l.poles (l.poles + l.r * (3 * l.n)) (joined l.r (lines_to l.h l.n l.band l.end l.given l.points l.initial.work)) l.initial.work)
-
-abbrev pub decreases-loop-r : goal.decreases-loop-r
-decreases-loop-r l = l.lines - l.r
+invariant-loop-r l =
+    DoneTo (length l.table.firsts.now) l.lines.lines (λ (r : ℕ) (x : List Float). line_through (l.table.degree - 1) (length l.table.firsts.now) l.band (on_lines l.lines r)) l.initial.poles l.poles l.r
