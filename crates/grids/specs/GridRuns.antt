@@ -18,7 +18,9 @@ use Rattle.fitting.specs.declared.Fit.{Fit}
 use Rattle.fitting.specs.declared.room.Sizes.{Sizes}
 use Rattle.fitting.specs.Room.{places_of}
 use Rattle.fitting.specs.Flat.{flat_of}
-use Rattle.fitting.specs.Jobs.{poles_in}
+use Rattle.fitting.specs.declared.Job.{Job}
+use Rattle.fitting.specs.declared.room.Regions.{Regions}
+use Rattle.fitting.specs.Jobs.{HasRegions, candidate_in, poles_in}
 use Rattle.fitting.specs.Marks.{unmarked, fit_of}
 use Rattle.fitting.specs.Within.{Marked}
 use Rattle.making.specs.declared.StandingFit.{StandingFit}
@@ -70,6 +72,16 @@ stood x = standing_in x.job x.at.now x.standing
 -- how many poles it has in each line
 abbrev pub count_of : StandingFit → ℕ
 count_of x = x.at.now.knots.count - x.job.degree - 1
+
+-- What the making of the table of a fit's knots leaves: that table, and the same fit.
+pub record TableStands (j : Job) (g g' : Regions) : Type 0 where
+  pub table : table_of g'.fit.table ≡ basis_table (flat_of g.knots) j.degree j.params.now
+  pub poles : g'.fit.table.poles ≡ g.knots.count - j.degree - 1
+  pub has : HasTable g'.fit.table
+  pub fit : candidate_in j g' ≡ candidate_in j g
+  pub knots : flat_of g'.knots ≡ flat_of g.knots
+  pub count : g'.knots.count ≡ g.knots.count
+  pub regions : HasRegions j g'
 
 -- a fit of a grid's rows, with the table of its knots
 pub record OverRows (call : SurfaceCall) (g : Grid) (rows : StandingFit) (u : ℕ) : Type 0 where

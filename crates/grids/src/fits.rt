@@ -5,7 +5,8 @@ ghost use Rattle.knots.specs.OnLines.{on_lines};
 ghost use Rattle.checks.specs.GridChecks.{GridShaped, GridRoomy, grid_room_of};
 ghost use Rattle.checks.specs.Slices.{grid_in, grid_lent_with, SameGridOutput};
 ghost use Rattle.grids.specs.Grids.{fit_grid_by, grid_fit, HandsOutGrid};
-ghost use Rattle.grids.specs.GridRuns.{rows_sizes, columns_sizes, columns_over, OverRows, HasParams, HasGridOutput, ColumnsRoom, RowsRoom};
+ghost use Rattle.grids.specs.GridRuns.{rows_sizes, columns_sizes, columns_over, OverRows, HasParams, HasGridOutput, ColumnsRoom, RowsRoom, TableStands};
+ghost use Rattle.fitting.specs.Jobs.{HasRegions, HasKnots};
 
 use crate::GridFit;
 use crate::aims::{column_aim, row_aim};
@@ -76,6 +77,14 @@ fn columns_sizes(shape: Shape, columns: usize) -> Sizes
     }
 }
 
+// The table of the knots that stand there.
+fn fill_table(job: Job, at: &mut Regions)
+    requires { HasRegions job at.old × HasKnots job at.old.knots.count }
+    ensures { TableStands job.entry at.old at.new }
+{
+    at.fit.fill(&at.knots, job.params);
+}
+
 // The columns' fit over the rows' fit, which stands with its table.
 fn fit_columns(grid: Grid, call: SurfaceCall, rows: StandingFit, u_params: &[f64], out: &mut GridOutput, work: &mut [f64], index: &mut [usize]) -> Result<GridFit, Refusal>
     requires over { OverRows call grid rows (length u_params.now) }
@@ -138,7 +147,7 @@ fn fit_rows(grid: Grid, call: SurfaceCall, u_params: &[f64], v_params: &[f64], o
     let mut at = Regions::new(sizes, near, firsts);
     let mut saved = SavedFit::new(sizes, put_by);
     let standing = making::make_direction(job, &mut at, &mut saved, row_aim(call))?;
-    at.fit.fill(&at.knots, v_params);
+    fill_table(job, &mut at);
     let rows = StandingFit {
         job,
         at: &at,

@@ -3,12 +3,13 @@
 
 ghost use Rattle.std.specs.Prelude.{◌≡◌, ◌/◌, [], length};
 ghost use Rattle.bspline.specs.Refusals.{pass};
+ghost use Rattle.knots.specs.OnLines.{on_lines};
+ghost use Rattle.tables.specs.Directions.{ladder as ladder_direction, ladder_point};
 ghost use Rattle.checks.specs.LadderChecks.{Roomy, Shaped, room_of, count_verdict};
 ghost use Rattle.checks.specs.Slices.{lent_in, lent_with, SameOutput, SameSlices};
-ghost use Rattle.fitting.specs.Jobs.{HasRegions, direction_of};
 ghost use Rattle.making.specs.Results.{fit_by};
 ghost use Rattle.ladders.specs.Ladders.{ladder_fit, HandsOut, LadderCall, Interpolates, Approximates, ApproximatesWithin, SearchesSpread};
-ghost use Rattle.ladders.specs.Standing.{HasOutput, HandsStanding};
+ghost use Rattle.ladders.specs.Standing.{HasOutput, HasRoom, HandsStanding, Passed};
 
 use bspline::Refusal;
 use checks::Call;
@@ -40,16 +41,50 @@ fn hand_standing(x: StandingFit, out: &mut Output) -> Fit
     }
 }
 
-// The call on a direction of one line, handed out.
-fn hand_made(job: Job, at: &mut Regions, call: Call, out: &mut Output) -> Result<Fit, Refusal>
-    requires regions { HasRegions job at.old × (count_verdict call (length job.params.now) job.degree ≡ pass) × (job.lines.lines ≡ 1) }
-    requires room { HasOutput (length job.params.now) job.degree out.old }
-    ensures hands { HandsOut job.entry.degree (fit_by call (direction_of job.entry)) (lent_with out.old [] []) (lent_with out.new [] []) result }
+// A ladder's points, as one line.
+fn line_of(ladder: Ladder) -> Lines
+    requires { Shaped (length ladder.points.now) ladder.degree }
+    ensures points { (on_lines result ≡ ladder_point ladder.entry.points.now) × (result.points ≡ ladder.entry.points) }
+    ensures counts { (result.lines ≡ 1) × (result.count ≡ length ladder.entry.points.now / 3) }
+{
+    Lines {
+        points: ladder.points,
+        lines: 1,
+        pitch: 0,
+        count: ladder.points.len() / 3,
+        stride: 1,
+    }
+}
+
+// The call on a ladder with its parameters, handed out.
+fn fit_params(ladder: Ladder, call: Call, params: &[f64], out: &mut Output, work: &mut [f64], index: &mut [usize]) -> Result<Fit, Refusal>
+    requires passed { Passed call ladder (length params.now) }
+    requires room { HasOutput (length params.now) ladder.degree out.old × HasRoom ladder.degree (length params.now) (length work.old) (length index.old) }
+    ensures hands { HandsOut ladder.entry.degree (fit_by call (ladder_direction ladder.entry.metric.factor ladder.entry.points.now ladder.entry.degree params.now))
+        (lent_with out.old [] []) (lent_with out.new [] []) result }
     ensures same { SameOutput out.old out.new }
 {
-    let standing = making::make(job, at, call)?;
-    let x = StandingFit { job, at, standing };
-    Ok(hand_standing(x, out))
+    let job = Job {
+        degree: ladder.degree,
+        factor: ladder.metric.factor,
+        params,
+        lines: line_of(ladder),
+        kind: Kind::Ladder,
+    };
+    let sizes = Sizes {
+        degree: ladder.degree,
+        count: params.len(),
+        lines: 1,
+        curve: 0,
+    };
+    let mut at = Regions::new(sizes, work, index);
+    let standing = making::make(job, &mut at, call)?;
+    let made = StandingFit {
+        job,
+        at: &at,
+        standing,
+    };
+    Ok(hand_standing(made, out))
 }
 
 // The call on a ladder that passed the checks, or 5.
@@ -60,33 +95,9 @@ fn fit_passed(ladder: Ladder, call: Call, out: &mut Output, work: &mut [f64], in
         (lent_with out.old [] []) (lent_with out.new [] []) result }
     ensures same { SameOutput out.old out.new }
 {
-    let points = ladder.points;
-    let degree = ladder.degree;
-    let n = points.len() / 3;
-    let lines = Lines {
-        points,
-        lines: 1,
-        pitch: 0,
-        count: n,
-        stride: 1,
-    };
-    let (params, work) = work.split_at_mut(n);
-    point_parameters(lines.line(0), ladder.metric, params)?;
-    let job = Job {
-        degree,
-        factor: ladder.metric.factor,
-        params,
-        lines,
-        kind: Kind::Ladder,
-    };
-    let sizes = Sizes {
-        degree,
-        count: n,
-        lines: 1,
-        curve: 0,
-    };
-    let mut at = Regions::new(sizes, work, index);
-    hand_made(job, &mut at, call, out)
+    let (params, work) = work.split_at_mut(ladder.points.len() / 3);
+    point_parameters(line_of(ladder).line(0), ladder.metric, params)?;
+    fit_params(ladder, call, params, out, work, index)
 }
 
 // Any of the calls.
