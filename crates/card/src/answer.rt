@@ -9,6 +9,8 @@ use bspline::Refusal;
 use card_printer::{Curve, KNOTS, POLES, ROOM};
 use card_reader::{Card, CardError, Head, PLACES};
 use checks::Call;
+use checks::given::Ladder;
+use checks::slices::{KnotSlices, Output, Slices};
 use fitting::Fit;
 use knots::Metric;
 
@@ -31,17 +33,15 @@ fn call_of(tolerance: Option<u64>) -> Call
 #[tactic(auto, unfolding(crate::specs::Answers::handed_text))]
 fn put_handed(
     answer: Result<Fit, Refusal>,
-    poles: &[f64],
-    knots: &[f64],
-    mults: &[u32],
+    handed: &Output,
     out: &mut [u8],
 ) -> usize
     requires few { FewIn answer }
-    requires poles { POLES ≤ length poles.now }
-    requires knots { KNOTS ≤ length knots.now }
-    requires mults { KNOTS ≤ length mults.now }
+    requires poles { POLES ≤ length handed.now.poles.now }
+    requires knots { KNOTS ≤ length handed.now.knots.distinct.now }
+    requires mults { KNOTS ≤ length handed.now.knots.mults.now }
     requires room { ROOM ≤ length out.old }
-    ensures put { Put out.old out.new 0 result (handed_text answer poles.now knots.now mults.now) }
+    ensures put { Put out.old out.new 0 result (handed_text answer handed.now.poles.now handed.now.knots.distinct.now handed.now.knots.mults.now) }
     ensures prefix { IsPrefixLen result out.new }
 {
     match answer {
@@ -50,9 +50,9 @@ fn put_handed(
             let curve = Curve {
                 mark: f.mark,
                 unreadable: f.unreadable,
-                knots: &knots[..f.knots],
-                mults: &mults[..f.knots],
-                poles: &poles[..3 * f.poles],
+                knots: &handed.knots.distinct[..f.knots],
+                mults: &handed.knots.mults[..f.knots],
+                poles: &handed.poles[..3 * f.poles],
             };
             card_printer::put_answer(&curve, out)
         }
@@ -68,7 +68,7 @@ fn fit_card(head: Head, points: &[f64], out: &mut [u8]) -> usize
 {
     let mut poles = [0.0; POLES];
     let mut flat = [0.0; KNOTS];
-    let mut knots = [0.0; KNOTS];
+    let mut distinct = [0.0; KNOTS];
     let mut mults = [0u32; KNOTS];
     let mut work = [0.0; WORK];
     let mut index = [0usize; INDEX];
@@ -76,19 +76,26 @@ fn fit_card(head: Head, points: &[f64], out: &mut [u8]) -> usize
         spacing: head.spacing,
         factor: 1.0,
     };
-    let fitted = ladders::fit_ladder(
+    let ladder = Ladder {
         points,
-        head.degree,
+        degree: head.degree,
         metric,
-        call_of(head.tolerance),
-        &mut poles,
-        &mut flat,
-        &mut knots,
-        &mut mults,
-        &mut work,
-        &mut index,
-    );
-    put_handed(fitted, &poles, &knots, &mults, out)
+    };
+    let knots = KnotSlices {
+        flat: &mut flat,
+        distinct: &mut distinct,
+        mults: &mut mults,
+    };
+    let mut slices = Slices {
+        out: Output {
+            poles: &mut poles,
+            knots,
+        },
+        work: &mut work,
+        index: &mut index,
+    };
+    let fitted = ladders::fit_ladder(ladder, call_of(head.tolerance), &mut slices);
+    put_handed(fitted, &slices.out, out)
 }
 
 // The text of a judged text's answer: 11, then 8, then the fit of the card's points.

@@ -4,6 +4,8 @@ ghost use Rattle.checks.specs.GridChecks.{grid_of, grid_lent};
 ghost use Rattle.knots.specs.Parameters.{metric_of};
 ghost use Rattle.telling.specs.ToldGrid.{shape_of, ToldGrid, ToldGridWithin};
 
+use checks::given::Grid;
+use checks::slices::{GridOutput, GridSlices, KnotSlices};
 use checks::{Shape, SurfaceCall};
 use knots::Metric;
 use telling::grid::call_grid;
@@ -43,24 +45,28 @@ pub extern "C" fn nigorzai_approximate_grid(
         u: udegree,
         v: vdegree,
     };
-    let call = SurfaceCall::Approximate(ucount, vcount);
-    call_grid(
+    let grid = Grid {
         points,
         shape,
-        Metric::new(spacing, factor),
-        call,
-        poles,
-        uflat,
-        uknots,
-        umults,
-        vflat,
-        vknots,
-        vmults,
+        metric: Metric::new(spacing, factor),
+    };
+    let u = KnotSlices {
+        flat: uflat,
+        distinct: uknots,
+        mults: umults,
+    };
+    let v = KnotSlices {
+        flat: vflat,
+        distinct: vknots,
+        mults: vmults,
+    };
+    let mut slices = GridSlices {
+        out: GridOutput { poles, u, v },
         work,
         index,
-        largest,
-        counts,
-    )
+    };
+    let call = SurfaceCall::Approximate(ucount, vcount);
+    call_grid(grid, call, &mut slices, largest, counts)
 }
 
 // Within a tolerance: the rows within 0.8 of it along v, then the whole grid within it along u.
@@ -97,22 +103,26 @@ pub extern "C" fn nigorzai_approximate_grid_within(
         u: udegree,
         v: vdegree,
     };
-    let call = SurfaceCall::ApproximateWithin(tolerance);
-    call_grid(
+    let grid = Grid {
         points,
         shape,
-        Metric::new(spacing, factor),
-        call,
-        poles,
-        uflat,
-        uknots,
-        umults,
-        vflat,
-        vknots,
-        vmults,
+        metric: Metric::new(spacing, factor),
+    };
+    let u = KnotSlices {
+        flat: uflat,
+        distinct: uknots,
+        mults: umults,
+    };
+    let v = KnotSlices {
+        flat: vflat,
+        distinct: vknots,
+        mults: vmults,
+    };
+    let mut slices = GridSlices {
+        out: GridOutput { poles, u, v },
         work,
         index,
-        largest,
-        counts,
-    )
+    };
+    let call = SurfaceCall::ApproximateWithin(tolerance);
+    call_grid(grid, call, &mut slices, largest, counts)
 }

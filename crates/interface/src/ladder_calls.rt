@@ -5,6 +5,8 @@ ghost use Rattle.knots.specs.Parameters.{metric_of};
 ghost use Rattle.telling.specs.Told.{Told, ToldWithin, ToldSpread};
 
 use checks::Call;
+use checks::given::Ladder;
+use checks::slices::{KnotSlices, Output, Slices};
 use knots::Metric;
 use telling::ladder::call_ladder;
 
@@ -30,20 +32,22 @@ pub extern "C" fn nigorzai_interpolate(
         largest.old largest.new counts.old counts.new result }
 {
     let call = Call::Interpolate;
-    call_ladder(
+    let ladder = Ladder {
         points,
         degree,
-        Metric::new(spacing, factor),
-        call,
-        poles,
+        metric: Metric::new(spacing, factor),
+    };
+    let knots = KnotSlices {
         flat,
-        knots,
+        distinct: knots,
         mults,
+    };
+    let mut slices = Slices {
+        out: Output { poles, knots },
         work,
         index,
-        largest,
-        counts,
-    )
+    };
+    call_ladder(ladder, call, &mut slices, largest, counts)
 }
 
 // Least squares with a chosen pole count.
@@ -69,20 +73,22 @@ pub extern "C" fn nigorzai_approximate(
         largest.old largest.new counts.old counts.new result }
 {
     let call = Call::Approximate(count);
-    call_ladder(
+    let ladder = Ladder {
         points,
         degree,
-        Metric::new(spacing, factor),
-        call,
-        poles,
+        metric: Metric::new(spacing, factor),
+    };
+    let knots = KnotSlices {
         flat,
-        knots,
+        distinct: knots,
         mults,
+    };
+    let mut slices = Slices {
+        out: Output { poles, knots },
         work,
         index,
-        largest,
-        counts,
-    )
+    };
+    call_ladder(ladder, call, &mut slices, largest, counts)
 }
 
 // Within a tolerance: by refinement, else by the spread search, else through the points.
@@ -108,20 +114,22 @@ pub extern "C" fn nigorzai_approximate_within(
         largest.old largest.new counts.old counts.new result }
 {
     let call = Call::ApproximateWithin(tolerance);
-    call_ladder(
+    let ladder = Ladder {
         points,
         degree,
-        Metric::new(spacing, factor),
-        call,
-        poles,
+        metric: Metric::new(spacing, factor),
+    };
+    let knots = KnotSlices {
         flat,
-        knots,
+        distinct: knots,
         mults,
+    };
+    let mut slices = Slices {
+        out: Output { poles, knots },
         work,
         index,
-        largest,
-        counts,
-    )
+    };
+    call_ladder(ladder, call, &mut slices, largest, counts)
 }
 
 // The spread search alone, else through the points.
@@ -147,18 +155,20 @@ pub extern "C" fn nigorzai_search_spread(
         largest.old largest.new counts.old counts.new result }
 {
     let call = Call::SearchSpread(tolerance);
-    call_ladder(
+    let ladder = Ladder {
         points,
         degree,
-        Metric::new(spacing, factor),
-        call,
-        poles,
+        metric: Metric::new(spacing, factor),
+    };
+    let knots = KnotSlices {
         flat,
-        knots,
+        distinct: knots,
         mults,
+    };
+    let mut slices = Slices {
+        out: Output { poles, knots },
         work,
         index,
-        largest,
-        counts,
-    )
+    };
+    call_ladder(ladder, call, &mut slices, largest, counts)
 }

@@ -5,6 +5,8 @@ ghost use Rattle.replay.specs.Runs.{compared, capped, needed, Fits, RanOn, TurnA
 
 use bspline::Refusal;
 use checks::Room;
+use checks::given::Ladder;
+use checks::slices::{KnotSlices, Slices};
 use fitting::Fit;
 use knots::Metric;
 use replay_list::answers::Output;
@@ -96,27 +98,31 @@ fn run_case(words: &[u64], case: Case, buffers: &mut Buffers) -> Option<Turn>
         spacing: case.spacing,
         factor: 1.0,
     };
-    let poles = &mut buffers.poles.as_mut_slice()[..room.poles];
-    let flat = &mut buffers.flat.as_mut_slice()[..room.flat];
-    let knots = &mut buffers.knots.as_mut_slice()[..room.knots];
-    let mults = &mut buffers.mults.as_mut_slice()[..room.mults];
-    let answer = ladders::fit_ladder(
-        &buffers.points[..case.count],
-        case.degree,
+    let ladder = Ladder {
+        points: &buffers.points[..case.count],
+        degree: case.degree,
         metric,
-        case.call,
-        poles,
-        flat,
-        knots,
-        mults,
-        &mut buffers.work.as_mut_slice()[..room.work],
-        &mut buffers.index.as_mut_slice()[..room.index],
-    );
+    };
+    let knots = KnotSlices {
+        flat: &mut buffers.flat.as_mut_slice()[..room.flat],
+        distinct: &mut buffers.knots.as_mut_slice()[..room.knots],
+        mults: &mut buffers.mults.as_mut_slice()[..room.mults],
+    };
+    let mut slices = Slices {
+        out: checks::slices::Output {
+            poles: &mut buffers.poles.as_mut_slice()[..room.poles],
+            knots,
+        },
+        work: &mut buffers.work.as_mut_slice()[..room.work],
+        index: &mut buffers.index.as_mut_slice()[..room.index],
+    };
+    let answer = ladders::fit_ladder(ladder, case.call, &mut slices);
+    let out = &slices.out;
     let output = Output {
-        poles,
-        flat,
-        knots,
-        mults,
+        poles: &out.poles[..],
+        flat: &out.knots.flat[..],
+        knots: &out.knots.distinct[..],
+        mults: &out.knots.mults[..],
     };
     compare(words, case, answer, output)
 }

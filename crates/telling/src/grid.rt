@@ -1,15 +1,16 @@
 // The grid calls.
 ghost use Rattle.std.specs.Prelude.{◌≡◌, ◌≤◌, length};
 ghost use Rattle.bspline.specs.Reader.{number_in};
-ghost use Rattle.checks.specs.GridChecks.{grid_of, grid_lent};
+ghost use Rattle.checks.specs.Slices.{grid_in, grid_lent_in, SameGridSlices};
 ghost use Rattle.grids.specs.Grids.{grid_result_number, grid_result_of};
 ghost use Rattle.telling.specs.ToldGrid.{told_grid_largest, told_grid_counts, no_grid, ToldGrid};
 
 use bspline::Refusal;
+use checks::given::Grid;
 use checks::grid::check_grid;
-use checks::{GridRoom, Shape, SurfaceCall};
+use checks::slices::GridSlices;
+use checks::{GridRoom, SurfaceCall};
 use grids::GridFit;
-use knots::Metric;
 
 // The number of an answer, with both marks and counts of a fit in the lent slices.
 fn tell_grid(answer: Result<GridFit, Refusal>, largest: &mut [f64], counts: &mut [usize]) -> u32
@@ -29,8 +30,8 @@ fn tell_grid(answer: Result<GridFit, Refusal>, largest: &mut [f64], counts: &mut
 }
 
 // The number of a call that has no room for its answer.
-fn grid_without_room(points: &[f64], shape: Shape, metric: Metric, call: SurfaceCall) -> u32
-    ensures { result ≡ grid_result_number (grid_result_of call (grid_of points.now shape metric) no_grid) }
+fn grid_without_room(grid: Grid, call: SurfaceCall) -> u32
+    ensures { result ≡ grid_result_number (grid_result_of call (grid_in grid.entry) no_grid) }
 {
     let room = GridRoom {
         poles: 0,
@@ -43,44 +44,20 @@ fn grid_without_room(points: &[f64], shape: Shape, metric: Metric, call: Surface
         work: 0,
         index: 0,
     };
-    match check_grid(points, shape, room, metric.factor) {
+    match check_grid(grid, room) {
         Err(c) => c.number(),
         Ok(()) => 9,
     }
 }
 
 // A grid call with its answer told, in the same way.
-pub fn call_grid(
-    points: &[f64],
-    shape: Shape,
-    metric: Metric,
-    call: SurfaceCall,
-    poles: &mut [f64],
-    uflat: &mut [f64],
-    uknots: &mut [f64],
-    umults: &mut [u32],
-    vflat: &mut [f64],
-    vknots: &mut [f64],
-    vmults: &mut [u32],
-    work: &mut [f64],
-    index: &mut [usize],
-    largest: &mut [f64],
-    counts: &mut [usize],
-) -> u32
-    ensures { ToldGrid call (grid_of points.now shape metric)
-        (grid_lent poles.old uflat.old uknots.old umults.old vflat.old vknots.old vmults.old work.old index.old)
-        (grid_lent poles.new uflat.new uknots.new umults.new vflat.new vknots.new vmults.new work.new index.new)
-        largest.old largest.new counts.old counts.new result }
+pub fn call_grid(grid: Grid, call: SurfaceCall, slices: &mut GridSlices, largest: &mut [f64], counts: &mut [usize]) -> u32
+    ensures told { ToldGrid call (grid_in grid.entry) (grid_lent_in slices.old) (grid_lent_in slices.new) largest.old largest.new counts.old counts.new result }
+    ensures same { SameGridSlices slices.old slices.new }
 {
-    if largest.len() < 2 {
-        return grid_without_room(points, shape, metric, call);
+    if largest.len() < 2 || counts.len() < 8 {
+        return grid_without_room(grid, call);
     }
-    if counts.len() < 8 {
-        return grid_without_room(points, shape, metric, call);
-    }
-    let answer = surfaces::fit_grid(
-        points, shape, metric, call, poles, uflat, uknots, umults, vflat, vknots, vmults, work,
-        index,
-    );
+    let answer = surfaces::fit_grid(grid, call, slices);
     tell_grid(answer, largest, counts)
 }

@@ -1,15 +1,16 @@
 // The ladder calls.
 ghost use Rattle.std.specs.Prelude.{◌≡◌, ◌≤◌, length};
 ghost use Rattle.bspline.specs.Reader.{number_in};
-ghost use Rattle.checks.specs.LadderChecks.{lent};
+ghost use Rattle.checks.specs.Slices.{lent_in, SameSlices};
 ghost use Rattle.ladders.specs.Ladders.{result_of};
 ghost use Rattle.telling.specs.Told.{told_largest, told_counts, nothing, Told};
 
 use bspline::Refusal;
+use checks::given::Ladder;
 use checks::ladder::check_ladder;
+use checks::slices::Slices;
 use checks::{Call, Room};
 use fitting::Fit;
-use knots::Metric;
 
 // The number of an answer, with the mark and the counts of a fit in the lent slices.
 fn tell(answer: Result<Fit, Refusal>, largest: &mut [f64], counts: &mut [usize]) -> u32
@@ -28,8 +29,8 @@ fn tell(answer: Result<Fit, Refusal>, largest: &mut [f64], counts: &mut [usize])
 }
 
 // The number of a call that has no room for its answer.
-fn without_room(points: &[f64], degree: usize, metric: Metric, call: Call) -> u32
-    ensures { result ≡ number_in (result_of call points.now degree metric nothing) }
+fn without_room(ladder: Ladder, call: Call) -> u32
+    ensures { result ≡ number_in (result_of call ladder.entry.points.now ladder.entry.degree ladder.entry.metric nothing) }
 {
     let room = Room {
         poles: 0,
@@ -39,40 +40,20 @@ fn without_room(points: &[f64], degree: usize, metric: Metric, call: Call) -> u3
         work: 0,
         index: 0,
     };
-    match check_ladder(call, points, degree, room, metric.factor) {
+    match check_ladder(ladder, call, room) {
         Err(c) => c.number(),
         Ok(()) => 9,
     }
 }
 
 // A ladder call with its answer told; where there is no room for that, it is judged as one with nothing lent.
-pub fn call_ladder(
-    points: &[f64],
-    degree: usize,
-    metric: Metric,
-    call: Call,
-    poles: &mut [f64],
-    flat: &mut [f64],
-    knots: &mut [f64],
-    mults: &mut [u32],
-    work: &mut [f64],
-    index: &mut [usize],
-    largest: &mut [f64],
-    counts: &mut [usize],
-) -> u32
-    ensures { Told call points.now degree metric
-        (lent poles.old flat.old knots.old mults.old work.old index.old)
-        (lent poles.new flat.new knots.new mults.new work.new index.new)
-        largest.old largest.new counts.old counts.new result }
+pub fn call_ladder(ladder: Ladder, call: Call, slices: &mut Slices, largest: &mut [f64], counts: &mut [usize]) -> u32
+    ensures told { Told call ladder.entry.points.now ladder.entry.degree ladder.entry.metric (lent_in slices.old) (lent_in slices.new) largest.old largest.new counts.old counts.new result }
+    ensures same { SameSlices slices.old slices.new }
 {
-    if largest.len() < 1 {
-        return without_room(points, degree, metric, call);
+    if largest.len() < 1 || counts.len() < 4 {
+        return without_room(ladder, call);
     }
-    if counts.len() < 4 {
-        return without_room(points, degree, metric, call);
-    }
-    let answer = ladders::fit_ladder(
-        points, degree, metric, call, poles, flat, knots, mults, work, index,
-    );
+    let answer = ladders::fit_ladder(ladder, call, slices);
     tell(answer, largest, counts)
 }
