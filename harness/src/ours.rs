@@ -20,31 +20,29 @@ unsafe extern "C" {
     fn pieces_factor_band(band: *mut f64, len: usize, h: usize, n: usize);
     fn pieces_substitute_band(work: *mut f64, len: usize, l0: usize, l1: usize, p0: usize, p1: usize, h: usize, n: usize);
     fn pieces_fill_table(
-        work: *mut f64, len: usize, index: *mut usize, index_len: usize, degree: usize, count: usize, firsts: usize, values: usize,
-        flat: usize, end: usize, params: usize,
+        flat: *const f64, flat_len: usize, degree: usize, params: *const f64, params_len: usize, firsts: *mut usize, firsts_len: usize,
+        values: *mut f64, values_len: usize,
     );
     fn pieces_least_squares(
-        work: *mut f64, len: usize, index: *const usize, index_len: usize, points: *const f64, points_len: usize,
-        degree: usize, count: usize, firsts: usize, values: usize, kind: usize, lines: usize, across: usize, start: usize, end: usize,
-        m: usize, band: usize, poles: usize,
+        degree: usize, m: usize, firsts: *mut usize, firsts_len: usize, values: *mut f64, values_len: usize, points: *const f64, points_len: usize,
+        lines: usize, pitch: usize, stride: usize, band: *mut f64, band_len: usize, poles: *mut f64, poles_len: usize,
     ) -> bool;
     fn pieces_interpolation(
-        work: *mut f64, len: usize, index: *const usize, index_len: usize, points: *const f64, points_len: usize,
-        degree: usize, count: usize, firsts: usize, values: usize, kind: usize, lines: usize, across: usize, start: usize, end: usize,
-        band: usize, poles: usize,
+        degree: usize, firsts: *mut usize, firsts_len: usize, values: *mut f64, values_len: usize, points: *const f64, points_len: usize,
+        lines: usize, pitch: usize, stride: usize, band: *mut f64, band_len: usize, poles: *mut f64, poles_len: usize,
     );
     fn pieces_ladder_deviations(
-        work: *mut f64, len: usize, index: *const usize, index_len: usize, points: *const f64, points_len: usize,
-        degree: usize, count: usize, firsts: usize, values: usize, m: usize, poles: usize, out: usize, most: *mut f64, most_len: usize,
+        degree: usize, m: usize, firsts: *mut usize, firsts_len: usize, values: *mut f64, values_len: usize, poles: *const f64, poles_len: usize,
+        points: *const f64, points_len: usize, squares: *mut f64, squares_len: usize, most: *mut f64, most_len: usize,
     ) -> usize;
     fn pieces_row_deviations(
-        work: *mut f64, len: usize, index: *const usize, index_len: usize, points: *const f64, points_len: usize,
-        degree: usize, count: usize, firsts: usize, values: usize, rows: usize, m: usize, poles: usize, out: usize, most: *mut f64, most_len: usize,
+        degree: usize, m: usize, firsts: *mut usize, firsts_len: usize, values: *mut f64, values_len: usize, rows: usize, poles: *const f64, poles_len: usize,
+        points: *const f64, points_len: usize, squares: *mut f64, squares_len: usize, most: *mut f64, most_len: usize,
     ) -> usize;
     fn pieces_grid_deviations(
-        work: *mut f64, len: usize, index: *const usize, index_len: usize, points: *const f64, points_len: usize,
-        u_degree: usize, u_count: usize, u_firsts: usize, u_values: usize, v_degree: usize, v_count: usize, v_firsts: usize, v_values: usize,
-        columns: usize, m: usize, poles: usize, curve: usize, out: usize, most: *mut f64, most_len: usize,
+        pu: usize, mu: usize, fu: *mut usize, fu_len: usize, wu: *mut f64, wu_len: usize, pv: usize, mv: usize, fv: *mut usize, fv_len: usize,
+        wv: *mut f64, wv_len: usize, poles: *const f64, poles_len: usize, points: *const f64, points_len: usize, curve: *mut f64, curve_len: usize,
+        squares: *mut f64, squares_len: usize, most: *mut f64, most_len: usize,
     ) -> usize;
     fn pieces_curve_point(flat: *const f64, flat_len: usize, degree: usize, poles: *const f64, poles_len: usize, u: f64, out: *mut f64, out_len: usize);
 }
@@ -153,137 +151,143 @@ pub struct Lines {
     pub across: usize,
 }
 
-/// One direction's work and index: parameters, flat knots, the table's values, the row poles of columns, the band, the poles, the squares of the deviations,
-/// with guard places between the regions and behind the last.
+impl Lines {
+    /// How many points lie from one line's first to the next's, and from a line's point to its next.
+    fn steps(self) -> (usize, usize) {
+        match self.kind { 0 => (0, 1), 1 => (self.across, 1), _ => (1, self.across) }
+    }
+}
+
+/// n places with a guard behind them.
+fn guarded(n: usize) -> Vec<f64> {
+    vec![GUARD; n + 1]
+}
+
+/// A direction's table, band, poles and squares of the deviations, each with a guard behind its places; and its parameters, flat knots and, for columns, row
+/// poles.
 pub struct Work {
-    pub work: Vec<f64>,
-    pub index: Vec<usize>,
+    params: Vec<f64>,
+    flat: Vec<f64>,
+    row_poles: Vec<f64>,
+    firsts: Vec<usize>,
+    values: Vec<f64>,
+    band: Vec<f64>,
+    poles: Vec<f64>,
+    squares: Vec<f64>,
     pub degree: usize,
     pub count: usize,
     pub m: usize,
     pub given: Lines,
-    pub values: usize,
-    pub start: usize,
-    pub band: usize,
-    pub poles: usize,
-    pub out: usize,
 }
-
-const FIRSTS: usize = 2;
 
 impl Work {
     pub fn new(params: &[f64], flat: &[f64], degree: usize, given: Lines, row_poles: &[f64]) -> Work {
         let (n, m) = (params.len(), flat.len() - degree - 1);
         assert!((1..=25).contains(&degree) && degree < m && m <= n && (2..=1024).contains(&n));
         assert!((1..=64).contains(&given.lines) && given.kind <= 2 && (given.kind != 2 || row_poles.len() == 3 * n * given.across));
-        let values = n + 1 + flat.len() + 1;
-        let start = values + n * (degree + 1) + 1;
-        let band = start + row_poles.len() + 1;
-        let poles = band + n * (2 * degree + 1) + 1;
-        let out = poles + 3 * given.lines * m + 1;
-        let mut work = vec![GUARD; out + n + 1];
-        work[..n].copy_from_slice(params);
-        work[n + 1..n + 1 + flat.len()].copy_from_slice(flat);
-        work[start..start + row_poles.len()].copy_from_slice(row_poles);
-        Work { work, index: vec![77; FIRSTS + n + 1], degree, count: n, m, given, values, start, band, poles, out }
+        Work {
+            params: params.to_vec(), flat: flat.to_vec(), row_poles: row_poles.to_vec(), firsts: vec![77; n + 1], values: guarded(n * (degree + 1)),
+            band: guarded(n * (2 * degree + 1)), poles: guarded(3 * given.lines * m), squares: guarded(n), degree, count: n, m, given,
+        }
     }
 
-    /// Runs f, and sees to it that no place outside from..to has changed.
-    fn within<T>(&mut self, from: usize, to: usize, f: impl FnOnce(&mut Work) -> T) -> T {
-        let before = self.work.clone();
-        let result = f(self);
-        let same = |a: &[f64], b: &[f64]| a.iter().zip(b).all(|(x, y)| x.to_bits() == y.to_bits());
-        assert!(same(&before[..from], &self.work[..from]) && same(&before[to..], &self.work[to..]), "a place outside the region was written");
-        result
+    /// Sees to it that no guard was written over.
+    fn checked(&self) {
+        let band = self.band.iter().rev().take_while(|x| x.to_bits() == GUARD.to_bits()).count();
+        assert!(band >= 1 && self.firsts[self.count] == 77, "a place behind a slice was written");
+        for list in [&self.values, &self.poles, &self.squares] {
+            assert!(*list.last().unwrap() == GUARD, "a place behind a slice was written");
+        }
     }
 
     pub fn fill_table(&mut self) {
-        let (p, n) = (self.degree, self.count);
+        let n = self.count;
+        let places = n * (self.degree + 1);
         unsafe {
             pieces_fill_table(
-                self.work.as_mut_ptr(), self.work.len(), self.index.as_mut_ptr(), self.index.len(), p, n, FIRSTS, self.values,
-                n + 1, n + 1 + self.m + p + 1, 0,
+                self.flat.as_ptr(), self.flat.len(), self.degree, self.params.as_ptr(), n, self.firsts.as_mut_ptr(), n, self.values.as_mut_ptr(), places,
             )
         }
     }
 
     pub fn fill_table_checked(&mut self) {
-        let (from, to) = (self.values, self.values + self.count * (self.degree + 1));
-        self.within(from, to, |w| w.fill_table());
-        assert!(self.index[..FIRSTS].iter().all(|&x| x == 77) && self.index[FIRSTS + self.count] == 77);
+        self.fill_table();
+        self.checked();
     }
 
     pub fn firsts(&self) -> &[usize] {
-        &self.index[FIRSTS..FIRSTS + self.count]
+        &self.firsts[..self.count]
     }
 
     pub fn table_values(&self) -> &[f64] {
-        &self.work[self.values..self.values + self.count * (self.degree + 1)]
-    }
-
-    fn poles_end(&self) -> usize {
-        self.poles + 3 * self.given.lines * self.m
+        &self.values[..self.count * (self.degree + 1)]
     }
 
     pub fn found_poles(&self) -> &[f64] {
-        &self.work[self.poles..self.poles_end()]
+        &self.poles[..3 * self.given.lines * self.m]
     }
 
     pub fn least_squares(&mut self, points: &[f64]) -> bool {
-        let (w, d) = (&mut self.work, self.given);
+        let (n, m, p, d) = (self.count, self.m, self.degree, self.given);
+        let (pitch, stride) = d.steps();
+        let points = if d.kind == 2 { &self.row_poles[..] } else { points };
         unsafe {
             pieces_least_squares(
-                w.as_mut_ptr(), w.len(), self.index.as_ptr(), self.index.len(), points.as_ptr(), points.len(), self.degree, self.count, FIRSTS, self.values,
-                d.kind, d.lines, d.across, self.start, self.start + 3 * self.count * d.across, self.m, self.band, self.poles,
+                p, m, self.firsts.as_mut_ptr(), n, self.values.as_mut_ptr(), n * (p + 1), points.as_ptr(), points.len(), d.lines, pitch, stride,
+                self.band.as_mut_ptr(), m * (p + 1), self.poles.as_mut_ptr(), 3 * d.lines * m,
             )
         }
     }
 
     pub fn least_squares_checked(&mut self, points: &[f64]) -> bool {
-        let (from, to) = (self.band, self.poles_end());
-        self.within(from, to, |w| w.least_squares(points))
+        let before = (self.firsts.clone(), self.values.clone());
+        self.band.fill(GUARD);
+        let found = self.least_squares(points);
+        self.checked();
+        assert!(before.0 == self.firsts && before.1.iter().zip(&self.values).all(|(a, b)| a.to_bits() == b.to_bits()), "the table was written");
+        found
     }
 
     pub fn interpolation(&mut self, points: &[f64]) {
-        assert!(self.m == self.count);
-        let (from, to) = (self.band, self.poles_end());
-        self.within(from, to, |s| {
-            let (w, d) = (&mut s.work, s.given);
-            unsafe {
-                pieces_interpolation(
-                    w.as_mut_ptr(), w.len(), s.index.as_ptr(), s.index.len(), points.as_ptr(), points.len(), s.degree, s.count, FIRSTS, s.values,
-                    d.kind, d.lines, d.across, s.start, s.start + 3 * s.count * d.across, s.band, s.poles,
-                )
-            }
-        })
+        let (n, p, d) = (self.count, self.degree, self.given);
+        assert!(self.m == n);
+        let (pitch, stride) = d.steps();
+        let points = if d.kind == 2 { &self.row_poles[..] } else { points };
+        self.band.fill(GUARD);
+        unsafe {
+            pieces_interpolation(
+                p, self.firsts.as_mut_ptr(), n, self.values.as_mut_ptr(), n * (p + 1), points.as_ptr(), points.len(), d.lines, pitch, stride,
+                self.band.as_mut_ptr(), n * (2 * (p - 1) + 1), self.poles.as_mut_ptr(), 3 * d.lines * n,
+            )
+        }
+        self.checked();
     }
 
     /// The largest deviation, and how many are NaN; `deviations()` are the roots of the squares that it leaves.
     pub fn measure(&mut self, points: &[f64]) -> (f64, usize) {
-        let (from, to) = (self.out, self.out + self.count);
+        let (n, p, m, lines) = (self.count, self.degree, self.m, self.given.lines);
+        let (poles, firsts, values) = (3 * lines * m, self.firsts.as_mut_ptr(), self.values.as_mut_ptr());
         let mut most = [GUARD; 2];
-        let unreadable = self.within(from, to, |s| {
-            let (w, rows) = (&mut s.work, s.given.kind == 1);
-            unsafe {
-                if rows {
-                    pieces_row_deviations(
-                        w.as_mut_ptr(), w.len(), s.index.as_ptr(), s.index.len(), points.as_ptr(), points.len(), s.degree, s.count, FIRSTS, s.values,
-                        s.given.lines, s.m, s.poles, s.out, most.as_mut_ptr(), 2,
-                    )
-                } else {
-                    pieces_ladder_deviations(
-                        w.as_mut_ptr(), w.len(), s.index.as_ptr(), s.index.len(), points.as_ptr(), points.len(), s.degree, s.count, FIRSTS, s.values,
-                        s.m, s.poles, s.out, most.as_mut_ptr(), 2,
-                    )
-                }
+        let unreadable = unsafe {
+            if self.given.kind == 1 {
+                pieces_row_deviations(
+                    p, m, firsts, n, values, n * (p + 1), lines, self.poles.as_ptr(), poles, points.as_ptr(), points.len(), self.squares.as_mut_ptr(), n,
+                    most.as_mut_ptr(), 2,
+                )
+            } else {
+                pieces_ladder_deviations(
+                    p, m, firsts, n, values, n * (p + 1), self.poles.as_ptr(), poles, points.as_ptr(), points.len(), self.squares.as_mut_ptr(), n,
+                    most.as_mut_ptr(), 2,
+                )
             }
-        });
+        };
+        self.checked();
         assert!(most[1] == GUARD);
         (most[0], unreadable)
     }
 
     pub fn deviations(&self) -> Vec<f64> {
-        roots(&self.work[self.out..self.out + self.count])
+        roots(&self.squares[..self.count])
     }
 }
 
@@ -293,29 +297,23 @@ fn roots(squares: &[f64]) -> Vec<f64> {
 }
 
 /// The whole grid against the surface that the columns' fit of `u` gives, with the table of `v`: each row's deviation, the largest, and how many are NaN.
-pub fn grid_deviations(u: &Work, v: &Work, points: &[f64]) -> (Vec<f64>, f64, usize) {
+pub fn grid_deviations(u: &mut Work, v: &mut Work, points: &[f64]) -> (Vec<f64>, f64, usize) {
     let columns = u.given.lines;
-    let (u_values, v_values) = (0, u.table_values().len() + 1);
-    let poles = v_values + v.table_values().len() + 1;
-    let curve = poles + u.found_poles().len() + 1;
-    let out = curve + 3 * columns;
-    let mut work = vec![GUARD; out + u.count + 1];
-    work[..v_values - 1].copy_from_slice(u.table_values());
-    work[v_values..poles - 1].copy_from_slice(v.table_values());
-    work[poles..curve - 1].copy_from_slice(u.found_poles());
-    let mut index = u.firsts().to_vec();
-    index.extend(v.firsts());
+    assert!(columns == v.m);
+    let mut curve = guarded(3 * columns);
     let mut most = [GUARD; 2];
-    let before = work.clone();
     let unreadable = unsafe {
         pieces_grid_deviations(
-            work.as_mut_ptr(), work.len(), index.as_ptr(), index.len(), points.as_ptr(), points.len(), u.degree, u.count, 0, u_values,
-            v.degree, v.count, u.count, v_values, columns, u.m, poles, curve, out, most.as_mut_ptr(), 2,
+            u.degree, u.m, u.firsts.as_mut_ptr(), u.count, u.values.as_mut_ptr(), u.count * (u.degree + 1),
+            v.degree, v.m, v.firsts.as_mut_ptr(), v.count, v.values.as_mut_ptr(), v.count * (v.degree + 1),
+            u.poles.as_ptr(), 3 * columns * u.m, points.as_ptr(), points.len(), curve.as_mut_ptr(), 3 * columns, u.squares.as_mut_ptr(), u.count,
+            most.as_mut_ptr(), 2,
         )
     };
-    assert!(most[1] == GUARD && work[out + u.count] == GUARD);
-    assert!(before[..curve].iter().zip(&work).all(|(a, b)| a.to_bits() == b.to_bits()), "a place outside the region was written");
-    (roots(&work[out..out + u.count]), most[0], unreadable)
+    u.checked();
+    v.checked();
+    assert!(most[1] == GUARD && curve[3 * columns] == GUARD);
+    (u.deviations(), most[0], unreadable)
 }
 
 /// The four ladder calls by their numbers.

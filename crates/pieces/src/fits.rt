@@ -1,228 +1,207 @@
-// The functions over a table and lines of data; a layout comes as its numbers.
-ghost use Rattle.std.specs.Prelude.{◌≡◌, ◌+◌, ◌*◌, ◌≤◌, length, set};
-ghost use Rattle.places.specs.Regions.{part, splice};
+// The functions over a table and lines of data; a table comes as its lists, and lines as their numbers.
+ghost use Rattle.std.specs.Prelude.{◌≡◌, ◌+◌, ◌-◌, ◌*◌, ◌≤◌, cond, length, set};
+ghost use Rattle.std.proofs.Math.Option.{none, some};
 ghost use Rattle.geometry.specs.Doubles.{one};
+ghost use Rattle.knots.specs.Lines.{lines_of};
 ghost use Rattle.tables.specs.BasisTable.{basis_table};
+ghost use Rattle.tables.specs.Deviations.{ladder_distances, row_distances, grid_distances, point_deviations, largest_over_rows, largest_over_columns};
+ghost use Rattle.tables.specs.Directions.{transposed};
+ghost use Rattle.tables.specs.Measures.{measured, LeavesSquares};
 ghost use Rattle.solving.specs.LeastSquares.{least_squares};
-ghost use Rattle.tables.specs.Deviations.{ladder_distances, row_distances, point_deviations, largest_over_rows, largest_over_columns};
-ghost use Rattle.tables.specs.Layout.{table_in, data_point, FillsTable, HasSquares, Squared, HasFit};
-ghost use Rattle.solving.specs.Through.{HasInterpolation, Interpolated};
-ghost use Rattle.tables.specs.Measures.{measured, HasGrid, LeavesSquares, grid_distances_in};
-ghost use Rattle.pieces.specs.Fits.{table_of, data_of};
+ghost use Rattle.solving.specs.Interpolation.{interpolation};
+ghost use Rattle.pieces.specs.Fits.{table_by, FillsBy, TableBy, LinesBy};
 
-use tables::{Data, Measured, Table};
+use knots::lines::Lines;
+use tables::basis_table::Table;
+use tables::deviations::{grid_deviations, ladder_deviations, row_deviations};
 
 #[unsafe(no_mangle)]
-pub extern "C" fn pieces_fill_table(
-    work: &mut [f64],
-    index: &mut [usize],
-    degree: usize,
-    count: usize,
-    firsts: usize,
-    values: usize,
-    flat: usize,
-    end: usize,
-    params: usize,
-)
-    requires { FillsTable (table_of degree count firsts values) flat end params work.old index.old }
-    ensures index_after { index.new ≡ splice firsts (firsts + count)
-        (basis_table (part flat end work.old) degree (part params (params + count) work.old)).firsts index.old }
-    ensures work_after { work.new ≡ splice values (values + count * (degree + 1))
-        (basis_table (part flat end work.old) degree (part params (params + count) work.old)).values work.old }
+pub extern "C" fn pieces_fill_table(flat: &[f64], degree: usize, params: &[f64], firsts: &mut [usize], values: &mut [f64])
+    requires { FillsBy degree flat.now params.now firsts.old values.old }
+    ensures firsts_after { firsts.new ≡ (basis_table flat.now degree params.now).firsts }
+    ensures values_after { values.new ≡ (basis_table flat.now degree params.now).values }
 {
-    let table = Table {
-        degree: degree,
-        count: count,
-        firsts: firsts,
-        values: values,
+    let mut table = Table {
+        degree,
+        poles: 0,
+        firsts,
+        values,
     };
-    tables::basis_table::fill_table(work, index, table, flat, end, params);
+    table.fill(flat, params);
 }
 
 #[unsafe(no_mangle)]
 pub extern "C" fn pieces_least_squares(
-    work: &mut [f64],
-    index: &[usize],
-    points: &[f64],
     degree: usize,
-    count: usize,
-    firsts: usize,
-    values: usize,
-    kind: usize,
-    lines: usize,
-    across: usize,
-    start: usize,
-    end: usize,
     m: usize,
-    band: usize,
-    poles: usize,
+    firsts: &mut [usize],
+    values: &mut [f64],
+    points: &[f64],
+    lines: usize,
+    pitch: usize,
+    stride: usize,
+    band: &mut [f64],
+    poles: &mut [f64],
 ) -> bool
-    requires { HasSquares (table_of degree count firsts values) (data_of kind lines across start end) m band poles points.now work.old index.now }
-    ensures { Squared (least_squares (table_in (table_of degree count firsts values) work.old index.now) m lines
-        (data_point (data_of kind lines across start end) points.now work.old)) (3 * (lines * m)) band poles work.old work.new result }
+    requires table { TableBy degree m firsts.old values.old }
+    requires lines { LinesBy (length firsts.old) m lines pitch stride (length poles.old) points.now }
+    requires matrix { length band.old ≡ m * (degree + 1) }
+    ensures answer { least_squares (table_by degree firsts.old values.old) m lines (lines_of points.now pitch stride) ≡ cond result (some poles.new) none }
+    ensures kept { (firsts.new ≡ firsts.old) × (values.new ≡ values.old) }
 {
+    let given = Lines {
+        points,
+        lines,
+        pitch,
+        count: firsts.len(),
+        stride,
+    };
     let table = Table {
-        degree: degree,
-        count: count,
-        firsts: firsts,
-        values: values,
+        degree,
+        poles: m,
+        firsts,
+        values,
     };
-    let given = Data {
-        kind: kind,
-        lines: lines,
-        across: across,
-        start: start,
-        end: end,
-    };
-    solving::squares::least_squares(work, index, points, table, given, m, band, poles)
+    solving::squares::least_squares(&table, given, band, poles)
 }
 
 #[unsafe(no_mangle)]
 pub extern "C" fn pieces_interpolation(
-    work: &mut [f64],
-    index: &[usize],
-    points: &[f64],
     degree: usize,
-    count: usize,
-    firsts: usize,
-    values: usize,
-    kind: usize,
+    firsts: &mut [usize],
+    values: &mut [f64],
+    points: &[f64],
     lines: usize,
-    across: usize,
-    start: usize,
-    end: usize,
-    band: usize,
-    poles: usize,
+    pitch: usize,
+    stride: usize,
+    band: &mut [f64],
+    poles: &mut [f64],
 )
-    requires { HasInterpolation (table_of degree count firsts values) (data_of kind lines across start end) band poles points.now work.old index.now }
-    ensures { Interpolated (table_of degree count firsts values) (data_of kind lines across start end) band poles points.now index.now work.old work.new }
+    requires table { TableBy degree (length firsts.old) firsts.old values.old }
+    requires lines { LinesBy (length firsts.old) (length firsts.old) lines pitch stride (length poles.old) points.now }
+    requires matrix { length band.old ≡ length firsts.old * (2 * (degree - 1) + 1) }
+    ensures answer { poles.new ≡ interpolation (table_by degree firsts.old values.old) lines (lines_of points.now pitch stride) }
+    ensures kept { (firsts.new ≡ firsts.old) × (values.new ≡ values.old) }
 {
+    let count = firsts.len();
+    let given = Lines {
+        points,
+        lines,
+        pitch,
+        count,
+        stride,
+    };
     let table = Table {
-        degree: degree,
-        count: count,
-        firsts: firsts,
-        values: values,
+        degree,
+        poles: count,
+        firsts,
+        values,
     };
-    let given = Data {
-        kind: kind,
-        lines: lines,
-        across: across,
-        start: start,
-        end: end,
-    };
-    solving::through::interpolation(work, index, points, table, given, band, poles);
+    solving::through::interpolation(&table, given, band, poles);
 }
 
-// The number of unreadable distances, with the largest in place 0 of `most`, and the squares of the deviations from `out` on.
+// The number of unreadable distances, with the largest in place 0 of `most`, and the squares of the deviations in their places.
 #[unsafe(no_mangle)]
 pub extern "C" fn pieces_ladder_deviations(
-    work: &mut [f64],
-    index: &[usize],
-    points: &[f64],
     degree: usize,
-    count: usize,
-    firsts: usize,
-    values: usize,
     m: usize,
-    poles: usize,
-    out: usize,
+    firsts: &mut [usize],
+    values: &mut [f64],
+    poles: &[f64],
+    points: &[f64],
+    squares: &mut [f64],
     most: &mut [f64],
 ) -> usize
-    requires { HasFit (table_of degree count firsts values) 1 m poles out count work.old index.now × (3 * count ≤ length points.now) × (1 ≤ length most.old) }
-    ensures value { result ≡ (measured (ladder_distances one (table_in (table_of degree count firsts values) work.old index.now) (part poles (poles + 3 * m) work.old) points.now)).unreadable }
-    ensures most_after { most.new ≡ set most.old 0 (measured (ladder_distances one (table_in (table_of degree count firsts values) work.old index.now) (part poles (poles + 3 * m) work.old) points.now)).largest }
-    ensures leaves_squares { LeavesSquares count out out point_deviations (ladder_distances one (table_in (table_of degree count firsts values) work.old index.now) (part poles (poles + 3 * m) work.old) points.now) work.old work.new
-        (measured (ladder_distances one (table_in (table_of degree count firsts values) work.old index.now) (part poles (poles + 3 * m) work.old) points.now)) }
+    requires table { TableBy degree m firsts.old values.old }
+    requires room { (3 * m ≤ length poles.now) × (length squares.old ≡ length firsts.old) × (3 * length firsts.old ≤ length points.now) × (1 ≤ length most.old) }
+    ensures value { result ≡ (measured (ladder_distances one (table_by degree firsts.old values.old) poles.now points.now)).unreadable }
+    ensures most_after { most.new ≡ set most.old 0 (measured (ladder_distances one (table_by degree firsts.old values.old) poles.now points.now)).largest }
+    ensures leaves_squares { LeavesSquares point_deviations (ladder_distances one (table_by degree firsts.old values.old) poles.now points.now) squares.new
+        (measured (ladder_distances one (table_by degree firsts.old values.old) poles.now points.now)) }
+    ensures kept { (firsts.new ≡ firsts.old) × (values.new ≡ values.old) }
 {
     let table = Table {
-        degree: degree,
-        count: count,
-        firsts: firsts,
-        values: values,
+        degree,
+        poles: m,
+        firsts,
+        values,
     };
-    let measured = tables::deviations::ladder_deviations(
-        work, index, points, 1.0, table, m, poles, out,
-    );
+    let measured = ladder_deviations(points, 1.0, &table, poles, squares);
     most[0] = measured.largest;
     measured.unreadable
 }
 
 #[unsafe(no_mangle)]
 pub extern "C" fn pieces_row_deviations(
-    work: &mut [f64],
-    index: &[usize],
-    points: &[f64],
     degree: usize,
-    count: usize,
-    firsts: usize,
-    values: usize,
-    rows: usize,
     m: usize,
-    poles: usize,
-    out: usize,
+    firsts: &mut [usize],
+    values: &mut [f64],
+    rows: usize,
+    poles: &[f64],
+    points: &[f64],
+    squares: &mut [f64],
     most: &mut [f64],
 ) -> usize
-    requires { HasFit (table_of degree count firsts values) rows m poles out count work.old index.now × (3 * (rows * count) ≤ length points.now) × (1 ≤ length most.old) }
-    ensures value { result ≡ (measured (row_distances one rows (table_in (table_of degree count firsts values) work.old index.now) m (part poles (poles + 3 * (rows * m)) work.old) points.now)).unreadable }
-    ensures most_after { most.new ≡ set most.old 0 (measured (row_distances one rows (table_in (table_of degree count firsts values) work.old index.now) m (part poles (poles + 3 * (rows * m)) work.old) points.now)).largest }
-    ensures leaves_squares { LeavesSquares count out out (largest_over_rows rows count) (row_distances one rows (table_in (table_of degree count firsts values) work.old index.now) m (part poles (poles + 3 * (rows * m)) work.old) points.now) work.old work.new
-        (measured (row_distances one rows (table_in (table_of degree count firsts values) work.old index.now) m (part poles (poles + 3 * (rows * m)) work.old) points.now)) }
+    requires table { TableBy degree m firsts.old values.old × (rows ≤ 64) }
+    requires room { (3 * (rows * m) ≤ length poles.now) × (length squares.old ≡ length firsts.old) × (3 * (rows * length firsts.old) ≤ length points.now) × (1 ≤ length most.old) }
+    ensures value { result ≡ (measured (row_distances one rows (table_by degree firsts.old values.old) m poles.now points.now)).unreadable }
+    ensures most_after { most.new ≡ set most.old 0 (measured (row_distances one rows (table_by degree firsts.old values.old) m poles.now points.now)).largest }
+    ensures leaves_squares { LeavesSquares (largest_over_rows rows (length firsts.old)) (row_distances one rows (table_by degree firsts.old values.old) m poles.now points.now) squares.new
+        (measured (row_distances one rows (table_by degree firsts.old values.old) m poles.now points.now)) }
+    ensures kept { (firsts.new ≡ firsts.old) × (values.new ≡ values.old) }
 {
     let table = Table {
-        degree: degree,
-        count: count,
-        firsts: firsts,
-        values: values,
+        degree,
+        poles: m,
+        firsts,
+        values,
     };
-    let measured = tables::deviations::row_deviations(
-        work, index, points, 1.0, table, rows, m, poles, out,
-    );
+    let measured = row_deviations(points, 1.0, &table, rows, poles, squares);
     most[0] = measured.largest;
     measured.unreadable
 }
 
-// The tables along u and v by degree, count, first places and values: pu, nu, fu, wu and pv, nv, fv, wv.
+// The tables along u and v by degree, poles, first poles and values.
 #[unsafe(no_mangle)]
 pub extern "C" fn pieces_grid_deviations(
-    work: &mut [f64],
-    index: &[usize],
-    points: &[f64],
     pu: usize,
-    nu: usize,
-    fu: usize,
-    wu: usize,
+    mu: usize,
+    fu: &mut [usize],
+    wu: &mut [f64],
     pv: usize,
-    nv: usize,
-    fv: usize,
-    wv: usize,
-    columns: usize,
-    m: usize,
-    poles: usize,
-    curve: usize,
-    out: usize,
+    mv: usize,
+    fv: &mut [usize],
+    wv: &mut [f64],
+    poles: &[f64],
+    points: &[f64],
+    curve: &mut [f64],
+    squares: &mut [f64],
     most: &mut [f64],
 ) -> usize
-    requires { HasGrid (table_of pu nu fu wu) (table_of pv nv fv wv) columns m poles curve out points.now work.old index.now × (1 ≤ length most.old) }
-    ensures value { result ≡ (measured (grid_distances_in one (table_of pu nu fu wu) (table_of pv nv fv wv) columns m poles points.now work.old index.now)).unreadable }
-    ensures most_after { most.new ≡ set most.old 0 (measured (grid_distances_in one (table_of pu nu fu wu) (table_of pv nv fv wv) columns m poles points.now work.old index.now)).largest }
-    ensures leaves_squares { LeavesSquares nu curve out (largest_over_columns nu nv) (grid_distances_in one (table_of pu nu fu wu) (table_of pv nv fv wv) columns m poles points.now work.old index.now) work.old work.new
-        (measured (grid_distances_in one (table_of pu nu fu wu) (table_of pv nv fv wv) columns m poles points.now work.old index.now)) }
+    requires tables { TableBy pu mu fu.old wu.old × TableBy pv mv fv.old wv.old × (mv ≤ 64) }
+    requires given { (3 * (mv * mu) ≤ length poles.now) × (3 * (length fu.old * length fv.old) ≤ length points.now) }
+    requires room { (length curve.old ≡ 3 * mv) × (length squares.old ≡ length fu.old) × (1 ≤ length most.old) }
+    ensures value { result ≡ (measured (grid_distances one (table_by pu fu.old wu.old) (table_by pv fv.old wv.old) mv (transposed mv mu poles.now) points.now)).unreadable }
+    ensures most_after { most.new ≡ set most.old 0 (measured (grid_distances one (table_by pu fu.old wu.old) (table_by pv fv.old wv.old) mv (transposed mv mu poles.now) points.now)).largest }
+    ensures leaves_squares { LeavesSquares (largest_over_columns (length fu.old) (length fv.old))
+        (grid_distances one (table_by pu fu.old wu.old) (table_by pv fv.old wv.old) mv (transposed mv mu poles.now) points.now) squares.new
+        (measured (grid_distances one (table_by pu fu.old wu.old) (table_by pv fv.old wv.old) mv (transposed mv mu poles.now) points.now)) }
+    ensures kept { (fu.new ≡ fu.old) × (wu.new ≡ wu.old) × (fv.new ≡ fv.old) × (wv.new ≡ wv.old) }
 {
     let u = Table {
         degree: pu,
-        count: nu,
+        poles: mu,
         firsts: fu,
         values: wu,
     };
     let v = Table {
         degree: pv,
-        count: nv,
+        poles: mv,
         firsts: fv,
         values: wv,
     };
-    let measured = tables::deviations::grid_deviations(
-        work, index, points, 1.0, u, v, columns, m, poles, curve, out,
-    );
+    let measured = grid_deviations(points, 1.0, &u, &v, poles, curve, squares);
     most[0] = measured.largest;
     measured.unreadable
 }

@@ -47,7 +47,8 @@ impl Table<'_> {
     // The table of these flat knots at these parameters, in its place.
     pub fn fill(&mut self, flat: &[f64], params: &[f64])
         requires { FillsTable self.old flat.now params.now }
-        ensures { Filled self.old self.new flat.now params.now }
+        ensures filled { Filled self.old self.new flat.now params.now }
+        ensures same { (self.new.firsts.ghost_name ≡ self.old.firsts.ghost_name) × (self.new.values.ghost_name ≡ self.old.values.ghost_name) }
     {
         let degree = self.degree;
         self.poles = flat.len() - degree - 1;
