@@ -1,31 +1,8 @@
 -- What tests on doubles say of them. Assumes nothing.
-use Rattle.std.proofs.Common.{◌≡◌, Bool, true, false, not, T, sym, refl, ap, ◌∙◌, subst, true≢false}
+use Rattle.std.proofs.Common.{◌≡◌, true, false, not, T, refl, true≢false}
 use mathlib.Core.Bool.{false≢true}
-use lib.Ieee.{Float, nan, inf, fin, lt, ne, neg, div, of_bits, is_nan}
-use lib.Ieee.Compare.{differs_from_itself, nan_differs}
+use lib.Ieee.{Float, nan, inf, fin, lt, neg, div, of_bits, is_nan}
 use Rattle.geometry.specs.Doubles.{nought, one, ◌⊘◌, is_finite}
-
--- a double is NaN where it differs from itself
-pub ne_nan : (x : Float) → ne x x ≡ true → is_nan x ≡ true
-unfolding is_nan
-ne_nan x e = ap is_nan (differs_from_itself x (subst T (sym e) tt))
-
-pub ne-number : (x : Float) → ne x x ≡ false → is_nan x ≡ false
-unfolding is_nan
-ne-number nan e = absurd (true≢false (sym nan_differs ∙ e))
-ne-number (inf s) e = refl
-ne-number (fin s m d) e = refl
-
-pub a-number : (x : Float) → ne x x ≡ false → T (not (is_nan x))
-a-number x e = subst (λ (b : Bool). T (not b)) (sym (ne-number x e)) tt
-
--- so the test whether it differs from itself is the test for NaN
-pub ne_is_nan : (x : Float) → ne x x ≡ is_nan x
-ne_is_nan x = by_test (ne x x) refl
-  where
-    by_test : (b : Bool) → ne x x ≡ b → b ≡ is_nan x
-    by_test true e = sym (ne_nan x e)
-    by_test false e = sym (ne-number x e)
 
 -- a finite double is a number
 pub finite_number : (x : Float) → is_finite x ≡ true → T (not (is_nan x))

@@ -1,17 +1,19 @@
 -- The laws of inserting into a sorted list, and of sorting. Assumes nothing.
-use Rattle.std.proofs.Common.{◌≡◌, ℕ, zero, suc, ◌+◌, ◌<◌, ◌≤◌, Bool, true, false, cond, T, ltb, leb, List, [], ◌∷◌, ◌++◌, length, get_or, take, drop, set, sym, refl, ap, ◌∙◌, subst, append_assoc, append-nil, le_trans, le_of_lt, add-one, arith, length-append, drop_of_length-le, length-take-le, take_all, drop-cons, take-suc, take_at, drop_at, ltb-false, ltb-true, le-ltb, lt-ltb, le-leb, leb-false, leb-true}
+use Rattle.std.proofs.Common.{◌≡◌, ℕ, zero, suc, ◌+◌, ◌<◌, ◌≤◌, Bool, true, false, cond, ltb, leb, List, [], ◌∷◌, ◌++◌, length, get_or, take, drop, set, sym, refl, ap, ◌∙◌, subst, append_assoc, append-nil, le_trans, le_of_lt, add-one, arith, length-append, drop_of_length-le, length-take-le, take_all, drop-cons, take-suc, take_at, drop_at, ltb-false, ltb-true, le-ltb, lt-ltb, le-leb, leb-false, leb-true}
 use borrow.Author.Tests.{lt-leb}
 use lib.Seq.{take-length, split_at, set_at, get_or_at}
-use lib.Ieee.{Float, nan, ne, to_bits}
-use lib.Ieee.Compare.{differs_from_itself}
+use mathlib.Core.Bool.{false≢true}
+use lib.Ieee.{Float, nan, inf, fin, is_nan, to_bits}
 use Rattle.places.specs.Places.{list_of}
 use Rattle.geometry.specs.Order.{rank_of, inserted, sorted_onto, sorted, NoneBelow, Ascending}
 
 -- ---- ranks
 
-pub nan_rank : (x : Float) → ne x x ≡ true → 18444492273895866368 ≡ rank_of x
-unfolding rank_of to_bits
-nan_rank x e = rw (differs_from_itself x (subst T (sym e) tt))
+pub nan_rank : (x : Float) → is_nan x ≡ true → 18444492273895866368 ≡ rank_of x
+unfolding is_nan rank_of to_bits
+nan_rank nan t = refl
+nan_rank (inf s) t = absurd (false≢true t)
+nan_rank (fin s m e) t = absurd (false≢true t)
 
 -- every value ranks at or below v
 abbrev pub NoneAbove : Float → List Float → Type 0

@@ -1,7 +1,7 @@
 -- `sqrt_of` at a NaN, a zero, a negative value and the infinity, by the tests that `sqrt` makes, and at a positive value by its pattern. Assumes nothing.
-use Rattle.std.proofs.Common.{◌≡◌, ℕ, zero, suc, ◌+◌, ◌*◌, ◌^◌, ◌<◌, ◌≤◌, Bool, true, false, not, ◌&&◌, ◌||◌, T, eqb, ◌⊎◌, ℤ, sym, refl, ap, ◌∙◌, subst, inl, inr, true≢false, lt_irrefl, zero-lt-suc, eq-zero-or-pos, mul-pos, zero-mul, arith, eqb→eq, ltb-false, ltb-true}
-use mathlib.Core.Bool.{beq, false≢true}
-use lib.Ieee.{Float, nan, inf, fin, binary64, up, down, of_bits, to_bits, nan_bits, div, lt, eq, ne, fits}
+use Rattle.std.proofs.Common.{◌≡◌, ℕ, zero, suc, ◌+◌, ◌*◌, ◌^◌, ◌<◌, ◌≤◌, Bool, true, false, not, T, eqb, ◌⊎◌, ℤ, sym, refl, ap, ◌∙◌, subst, inl, inr, true≢false, lt_irrefl, zero-lt-suc, eq-zero-or-pos, mul-pos, zero-mul, arith, eqb→eq, ltb-false, ltb-true}
+use mathlib.Core.Bool.{false≢true}
+use lib.Ieee.{Float, nan, inf, fin, binary64, up, down, of_bits, to_bits, nan_bits, div, lt, eq, is_nan, fits}
 use lib.Ieee.Fits.{up_pos, and_l}
 use lib.Ieee.Bits.{of_bits-to_bits}
 use lib.Ieee.Exact.{HasValue}
@@ -16,21 +16,11 @@ size_pos m e = mul-pos (mul-pos (zero-lt-suc m) (up_pos e)) (zero-lt-suc 0)
 of_true : {b : Bool} → b ≡ true → T b
 of_true e = subst T (sym e) tt
 
-pub at_nan : (x : Float) → ne x x ≡ true → x ≡ sqrt_of x
-unfolding ne sqrt_of
+pub at_nan : (x : Float) → is_nan x ≡ true → x ≡ sqrt_of x
+unfolding is_nan sqrt_of
 at_nan nan t = refl
-at_nan (inf true) t = absurd (false≢true t)
-at_nan (inf false) t = refl
-at_nan (fin s zero e) t = refl
-at_nan (fin s (suc m) e) t = absurd (same s (suc m * up e * down e) t)
-  where
-    same : (s : Bool) (a : ℕ) → not (eqb a a && (beq s s || eqb a 0)) ≡ true → ⊥
-    same s a t = go s (eqb a a) (lib.Dec.eqb_refl a) t
-      where
-        go : (s b : Bool) → T b → not (b && (beq s s || eqb a 0)) ≡ true → ⊥
-        go true true h k = false≢true k
-        go false true h k = false≢true k
-        go s false h k = h
+at_nan (inf s) t = absurd (false≢true t)
+at_nan (fin s m e) t = absurd (false≢true t)
 
 pub at_zero : (x : Float) → eq x (of_bits binary64 0) ≡ true → x ≡ sqrt_of x
 unfolding eq of_bits sqrt_of

@@ -7,7 +7,7 @@ ghost use Rattle.geometry.specs.Order.{rank_of, inserted, sorted, Ascending};
 pub fn rank(x: f64) -> u64
     ensures { result ≡ rank_of x }
 {
-    if x != x {
+    if x.is_nan() {
         return 0xfff8_0000_0000_0000;
     }
     let b = f64::to_bits(x);

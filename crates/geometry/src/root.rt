@@ -103,7 +103,7 @@ fn positive_bits(b: u64) -> u64
 fn careful_sqrt(x: f64) -> f64
     ensures { result ≡ sqrt_of x }
 {
-    if x != x {
+    if x.is_nan() {
         return x;
     }
     if x == 0.0 {
@@ -166,7 +166,7 @@ fn quick_bits(b: u64) -> Option<u64>
 pub fn sqrt(x: f64) -> f64
     ensures { result ≡ sqrt_of x }
 {
-    if x != x {
+    if x.is_nan() {
         return x;
     }
     let b = f64::to_bits(x);

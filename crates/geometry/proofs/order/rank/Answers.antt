@@ -1,18 +1,14 @@
--- The definition, by the tests; a NaN is told by differing from itself, and has the rank of its one pattern. Assumes nothing.
-use Rattle.std.proofs.Common.{arith, le-ltb, lt-ltb}
+-- The definition, by the tests; a NaN has the rank of its one pattern. Assumes nothing.
+use Rattle.std.proofs.Common.{arith, sym, ◌∙◌, le-ltb, lt-ltb}
 use lib.Ieee.{binary64}
 use lib.Ieee.Bits.{to_bits-lt}
 use denote.Floats.{passes}
 use Rattle.geometry.specs.Order.{rank_of}
 use Rattle.geometry.proofs.SortLaws.{nan_rank}
-use Rattle.geometry.proofs.DoubleLaws.{a-number}
 use Rattle.geometry.proofs.order.rank.Goals as goal
 
-pub returns-then-x : goal.returns-then-x
-returns-then-x c = nan_rank _ c.if-x.true
-
-pub float_to_bits-b : goal.float_to_bits-b
-float_to_bits-b c = a-number _ c.if-x.false
+pub returns-then-is_nan : goal.returns-then-is_nan
+returns-then-is_nan c = nan_rank _ (sym c.is_nan.ensures.value ∙ c.if-is_nan.true)
 
 pub overflow_sub-result : goal.overflow_sub-result
 overflow_sub-result c = omega (arith, to_bits-lt binary64 c.args.x (passes _ c.well_formed.0.1))

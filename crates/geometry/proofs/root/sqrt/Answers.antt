@@ -1,15 +1,11 @@
 -- `root::sqrt` meets its contract: what the quick way finds is the root's pattern, and where it finds nothing the careful way answers. Assumes nothing.
-use Rattle.std.proofs.Common.{ℕ, ◌<◌, T, sym, refl, subst, arith}
+use Rattle.std.proofs.Common.{ℕ, ◌<◌, T, sym, refl, ◌∙◌, subst, arith}
 use lib.Ieee.{binary64, to_bits}
 use Rattle.geometry.proofs.Special.{at_nan, root_is-number, at_positive}
-use Rattle.geometry.proofs.DoubleLaws.{a-number}
 use Rattle.geometry.proofs.root.sqrt.Goals as goal
 
-pub returns-then-x : goal.returns-then-x
-returns-then-x c = at_nan c.args.x c.if-x.true
-
-pub float_to_bits-b : goal.float_to_bits-b
-float_to_bits-b c = a-number c.args.x c.if-x.false
+pub returns-then-is_nan : goal.returns-then-is_nan
+returns-then-is_nan c = at_nan c.args.x (sym c.is_nan.ensures.value ∙ c.if-is_nan.true)
 
 -- at what was found: x's pattern lies between 0 and the infinity's, and `bits` is that of the root
 pub float_from_bits-result : goal.float_from_bits-result
