@@ -47,6 +47,7 @@ impl Refusal {
 }
 
 // 17: a lightness factor that is not between 0.25 and 4.
+#[tactic(auto, unfolding(crate::specs::Refusals::factor_verdict))]
 pub fn check_factor(factor: f64) -> Result<(), Refusal>
     ensures { result ≡ factor_verdict factor }
 {
