@@ -2,8 +2,8 @@
 pub mod DeviationLaws
 pub mod RefinedLaws
 pub mod ToleranceLaws
+pub mod FlatLaws
 pub mod AttemptLaws
-pub mod MeasureLaws
 pub mod SplittingLaws
 pub mod RoundsLaws
 pub mod CountLaws

@@ -34,7 +34,12 @@ impl Fitted<'_> {
         let m = self.table.poles;
         let size = m * (self.table.degree + 1);
         let places = 3 * (lines.lines * m);
-        least_squares(&self.table, lines, &mut band[..size], &mut self.poles[..places])
+        least_squares(
+            &self.table,
+            lines,
+            &mut band[..size],
+            &mut self.poles[..places],
+        )
     }
 
     // Its poles through the points.
@@ -46,7 +51,12 @@ impl Fitted<'_> {
         let n = self.table.poles;
         let size = n * (2 * (self.table.degree - 1) + 1);
         let places = 3 * (lines.lines * n);
-        interpolation(&self.table, lines, &mut band[..size], &mut self.poles[..places]);
+        interpolation(
+            &self.table,
+            lines,
+            &mut band[..size],
+            &mut self.poles[..places],
+        );
     }
 }
 
@@ -57,20 +67,21 @@ impl Job<'_, '_, '_, '_> {
     ghost use Rattle.fitting.specs.Jobs.{direction_of, distances_on};
 
     // The points against a fit: the square of each parameter's deviation in its place.
+    #[tactic(auto, unfolding(crate::specs::Solves::curve_places, crate::specs::Jobs::direction_of, crate::specs::Jobs::distances_by, crate::specs::Jobs::deviations_by))]
     fn measure(self, fit: &Fitted, curve: &mut [f64], squares: &mut [f64]) -> Measured
         requires { HasFit self fit.now (length curve.old) (length squares.old) }
         ensures { LeavesSquares (direction_of self.entry).deviations (distances_on self.entry fit.now) squares.new result }
     {
         let table = &fit.table;
-        let poles = &fit.poles[..3 * (self.lines.lines * table.poles)];
+        let lines = self.lines.lines;
+        let poles = &fit.poles[..3 * (lines * table.poles)];
         let points = self.lines.points;
+        let factor = self.factor;
         match self.kind {
-            Kind::Ladder => ladder_deviations(points, self.factor, table, poles, squares),
-            Kind::Rows => {
-                row_deviations(points, self.factor, table, self.lines.lines, poles, squares)
-            }
+            Kind::Ladder => ladder_deviations(points, factor, table, poles, squares),
+            Kind::Rows => row_deviations(points, factor, table, lines, poles, squares),
             Kind::Columns(s) => {
-                grid_deviations(s.points, self.factor, table, s.across, poles, curve, squares)
+                grid_deviations(s.points, factor, table, s.across, poles, curve, squares)
             }
         }
     }
@@ -89,6 +100,7 @@ pub fn attempt(job: Job, at: &mut Regions) -> Option<Measured>
 }
 
 // Least squares on the spread knots of m poles.
+#[tactic(auto, unfolding(crate::specs::Within::fit_on_spread, crate::specs::Jobs::direction_of))]
 pub fn attempt_spread(job: Job, at: &mut Regions, m: usize) -> Option<Measured>
     requires { HasRegions job at.old × (job.degree < m) × (m ≤ length job.params.now) }
     ensures { AttemptsSpread job.entry m at.new result }

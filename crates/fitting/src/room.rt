@@ -50,6 +50,7 @@ impl<'a> Regions<'a> {
     ghost use Rattle.fitting.specs.Room.{SmallSizes, places_of, HasSizes};
 
     // Regions of these sizes, one after the other from the first place of the work and of the index on.
+    #[tactic(auto, unfolding(crate::specs::Room::places_of))]
     pub fn new(sizes: Sizes, work: &'a mut [f64], index: &'a mut [usize]) -> Regions<'a>
         requires small { SmallSizes sizes }
         requires room { (places_of sizes ≤ length work.old) × (sizes.count ≤ length index.old) }

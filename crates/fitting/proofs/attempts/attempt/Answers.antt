@@ -1,23 +1,23 @@
--- Fill the table, solve behind it, measure behind that: each step reads what stands before its own region, so the fit is the definition's. Assumes nothing.
-use Rattle.fitting.proofs.AttemptLaws.{has_squares, measurable, unfitted, fitting}
+-- The table on the knots that stand there, its poles, and their measures. Assumes nothing.
+use Rattle.std.proofs.Common.{rules}
+use Rattle.fitting.proofs.AttemptLaws.{has_lines, measurable, unfitted, fitting}
 use Rattle.fitting.proofs.attempts.attempt.Goals as goal
 
-pub least_squares-requires : goal.least_squares-requires
-least_squares-requires c =
-    let f = c.fill_table.ensures in
-    has_squares _ _ _ _ c.requires.0 _ c.requires.1 _ _ f.index_after f.work_after
+pub solve-requires : goal.solve-requires
+solve-requires c = has_lines _ _ c.requires.0 c.requires.1 _ c.fill.ensures.filled c.fill.ensures.poles_after
 
-pub returns-then-not-least_squares : goal.returns-then-not-least_squares
-returns-then-not-least_squares c =
-    let f = c.fill_table.ensures in
-    unfitted _ _ _ _ c.requires.0 _ c.requires.1 _ _ f.index_after f.work_after _ c.if-not-least_squares.ensures
+pub returns-then-not-solve : goal.returns-then-not-solve
+returns-then-not-solve c =
+    let f = c.fill in
+    unfitted _ _ c.requires.0 c.requires.1 f.new.self f.ensures.filled f.ensures.poles_after c.solve.new.self c.if-not-solve.ensures _ (search rules)
 
 pub measure-requires : goal.measure-requires
 measure-requires c =
-    let f = c.fill_table.ensures in
-    measurable _ _ _ _ c.requires.0 _ c.requires.1 _ _ f.index_after f.work_after _ c.least_squares.ensures.kept
+    let f = c.fill in
+    let s = c.solve.ensures in
+    measurable _ _ c.requires.0 c.requires.1 f.new.self f.ensures.filled f.ensures.poles_after c.solve.new.self s.table s.long
 
 pub returns : goal.returns
 returns c =
-    let f = c.fill_table.ensures in
-    fitting _ _ _ _ c.requires.0 _ c.requires.1 _ _ f.index_after f.work_after _ c.if-not-least_squares.ensures _ _ c.measure.ensures
+    let f = c.fill in
+    fitting _ _ c.requires.0 c.requires.1 f.new.self f.ensures.filled f.ensures.poles_after c.solve.new.self c.if-not-solve.ensures _ (search rules) _ c.measure.ensures

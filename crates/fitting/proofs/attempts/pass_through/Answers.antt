@@ -1,30 +1,31 @@
--- The knots stand behind the parameters, the table behind the knots, the poles behind the table, and the deviations last: each step leaves what it reads. Assumes nothing.
-use Rattle.fitting.proofs.AttemptLaws.{put-averaged, through_requires, through-measures, passes}
+-- The table and the poles on the averaged knots that were laid. Assumes nothing.
+use Rattle.std.proofs.Common.{rules}
+use Rattle.fitting.proofs.AttemptLaws.{through_lines, through_poles, through_measurable, passes}
 use Rattle.fitting.proofs.attempts.pass_through.Goals as goal
 
-pub interpolation-requires : goal.interpolation-requires
-interpolation-requires c =
-    let a = c.args in
-    let s = c.split_at_mut-head.ensures in
-    let k = c.averaged_knots in
-    let put = put-averaged a.job a.points.now a.work.now a.index.now c.requires _ _ k.new.flat s.front s.back k.ensures in
-    let f = c.fill_table.ensures in
-    through_requires _ _ _ _ c.requires _ put _ _ f.index_after f.work_after
+pub pass-requires-clause-has_lines : goal.pass-requires-clause-has_lines
+pass-requires-clause-has_lines c =
+    let k = c.lay_averaged in
+    let f = c.fill in
+    through_lines c.args.job c.args.at.now c.requires k.new.self k.ensures f.new.self f.ensures.filled f.ensures.poles_after
+
+pub pass-requires-clause-as_many : goal.pass-requires-clause-as_many
+pass-requires-clause-as_many c =
+    let k = c.lay_averaged in
+    let f = c.fill in
+    through_poles c.args.job c.args.at.now c.requires k.new.self k.ensures f.new.self f.ensures.filled f.ensures.poles_after
 
 pub measure-requires : goal.measure-requires
 measure-requires c =
-    let a = c.args in
-    let s = c.split_at_mut-head.ensures in
-    let k = c.averaged_knots in
-    let put = put-averaged a.job a.points.now a.work.now a.index.now c.requires _ _ k.new.flat s.front s.back k.ensures in
-    let f = c.fill_table.ensures in
-    through-measures _ _ _ _ c.requires _ put _ _ f.index_after f.work_after _ c.interpolation.ensures
+    let k = c.lay_averaged in
+    let f = c.fill in
+    let p = c.pass in
+    through_measurable c.args.job c.args.at.now c.requires k.new.self k.ensures f.new.self f.ensures.filled f.ensures.poles_after p.new.self p.ensures
 
 pub returns : goal.returns
 returns c =
-    let a = c.args in
-    let s = c.split_at_mut-head.ensures in
-    let k = c.averaged_knots in
-    let put = put-averaged a.job a.points.now a.work.now a.index.now c.requires _ _ k.new.flat s.front s.back k.ensures in
-    let f = c.fill_table.ensures in
-    passes _ _ _ _ c.requires _ put _ _ f.index_after f.work_after _ c.interpolation.ensures _ _ c.measure.ensures
+    let k = c.lay_averaged in
+    let f = c.fill in
+    let p = c.pass in
+    let m = c.measure in
+    passes c.args.job c.args.at.now c.requires k.new.self k.ensures f.new.self f.ensures.filled f.ensures.poles_after p.new.self p.ensures _ (search rules) _ m.ensures
