@@ -4,6 +4,5 @@ pub mod RefinedLaws
 pub mod ToleranceLaws
 pub mod FlatLaws
 pub mod AttemptLaws
-pub mod SplittingLaws
 pub mod RoundsLaws
 pub mod CountLaws

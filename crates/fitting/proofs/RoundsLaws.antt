@@ -1,4 +1,4 @@
--- Refinement in a job's regions: one round, that rounds which are enough for the parameters are enough, and the loop over them. Assumes nothing.
+-- Rounds of a refinement: that rounds which are enough for the parameters are enough, what one round comes to, and the loop over them. Assumes nothing.
 use mathlib.Core.Path.{◌≡◌, refl, sym, ◌∙◌, ap}
 use mathlib.Core.Bool.{Bool, true, false, cond}
 use mathlib.Core.List.{List}
@@ -6,28 +6,26 @@ use mathlib.Core.Option.{Option as Maybe, none, some}
 use Prim.Native.Nat.{ℕ, zero, suc, ◌+◌, ◌-◌, ◌*◌, ◌≤◌, ◌<◌}
 use native.Mathlib.Omega.{arith}
 use lib.ListN.{length}
+use borrow.Rule.Slice.Mut.{set_vals}
 use lib.Ieee.{Float, le}
 use Rattle.std.specs.Prelude.{Option, Some, None}
-use Rattle.places.specs.Regions.{part, splice}
-use Rattle.places.proofs.RegionLaws.{length_part, part-splice}
+use Rattle.std.proofs.Common.{length-take-le}
 use Rattle.geometry.specs.Doubles.{largest}
 use Rattle.knots.specs.Knots.{bezier_knots}
 use Rattle.knots.proofs.KnotLaws.{length_bezier}
 use Rattle.tables.specs.declared.Measured.{Measured}
+use Rattle.tables.specs.declared.basis_table.Table.{Table}
 use Rattle.tables.specs.Deviations.{largest_within}
 use Rattle.tables.specs.Directions.{Direction}
-use Rattle.tables.specs.Layout.{Kept}
 use Rattle.tables.specs.Measures.{measured}
-use Rattle.tables.proofs.KeptLaws.{kept_same, kept-splice, kept_wider, kept_then, kept-part}
-use Rattle.tables.proofs.TableLaws.{length-firsts}
 use Rattle.refinement.specs.Refinement.{refined_knots}
 use Rattle.refinement.proofs.RoundLaws.{refined-grows}
 use Rattle.fitting.specs.declared.Job.{Job}
-use Rattle.fitting.specs.declared.Reached.{Reached}
+use Rattle.fitting.specs.declared.flat.FlatKnots.{FlatKnots}
+use Rattle.fitting.specs.declared.room.Regions.{Regions}
+use Rattle.fitting.specs.Flat.{flat_of, next_in, Laid, Refined}
 use Rattle.fitting.specs.Within.{Candidate, table_on, fit_on, Refining, going, fitted, stuck, going_on, judged, refinement_round, refinement_rounds, fit_in, fit_with_refined_knots}
-use Rattle.fitting.specs.Jobs.{direction_of, flat_region, candidate_in, attempted, refined_in, HasJob, HasKnots, Attempts, RefinesWithin}
-use Rattle.fitting.specs.Splits.{HasSplits, next_knots, next_in, Splits}
-use Rattle.fitting.proofs.AttemptLaws.{fills, params-long, has_job-kept, direction-kept, kept-knots, has_job_put, direction_put, flat_put, missed, met, reaches_later}
+use Rattle.fitting.specs.Jobs.{direction_of, candidate_in, attempted, HasRegions, HasKnots, Attempts, RefinesWithin}
 
 -- ---- the rounds of a direction
 
@@ -104,263 +102,175 @@ module _ (d : Direction) (t : Float) where
       ap (judged d t flat) e
       ∙ ap (λ (b : Bool). cond b (fitted f) (going_on (refined_knots d.params (table_on d flat).firsts (d.deviations f.distances) (largest f.distances) t d.degree flat))) w
 
--- ---- one round in the job's regions
+-- ---- one round on the flat knots that stand in a job's regions
 
--- what a round on the l flat knots that stand there comes to, and what it leaves
-pub record Turned (j : Job) (points : List Float) (l : ℕ) (t : Float) (w w' : List Float) (index index' : List ℕ) (s : Refining) : Type 0 where
-  pub answer : refinement_round (direction_of j points w index) t (going (flat_region j l w)) ≡ s
-  pub firsts : Kept j.table.firsts (j.table.firsts + j.table.count) index index'
-  pub kept : Kept j.flat (j.fresh + j.table.count) w w'
-
-module _ {j : Job} {points w : List Float} {index : List ℕ} (has : HasJob j points w index) {l : ℕ} (knots : HasKnots j l) (t : Float) where
+module _ (j : Job) (t : Float) (g g' : Regions) where
   abbrev d : Direction
-  d = direction_of j points w index
+  d = direction_of j
 
   abbrev flat : List Float
-  flat = flat_region j l w
+  flat = flat_of g.knots
 
-  abbrev last : ℕ
-  last = j.fresh + j.table.count
+  round_stuck : Attempts j g g' None → refinement_round d t (going flat) ≡ stuck
+  unfolding attempted
+  round_stuck x = round_unfitted d t flat x.answer
 
-  abbrev start : ℕ
-  start = j.table.firsts
+  module _ {y : Measured} (x : Attempts j g g' (Some y)) where
+    abbrev f : Candidate
+    f = candidate_in j g'
 
-  abbrev end : ℕ
-  end = j.table.firsts + j.table.count
-
-  firsts-long : length (table_on d flat).firsts ≡ end - start
-  unfolding direction_of flat_region
-  firsts-long = length-firsts j.table j.flat (j.flat + l) j.params w w index index (fills j points w index has l knots) ∙ omega arith
-
-  kept_attempt : {w₁ : List Float} → Kept j.table.values (j.deviations + j.table.count) w w₁ → Kept j.flat last w w₁
-  kept_attempt {w₁} x = kept_wider j.table.values (j.deviations + j.table.count) j.flat last w w₁ (omega (arith, has.flat_in)) (omega (arith, has.deviations_in)) x
-
-  module _ {w₁ : List Float} {index₁ : List ℕ} where
-    index_kept : {r : Option Measured} → Attempts j points l w w₁ index index₁ r → Kept start end index index₁
-    index_kept x = rw x.firsts (kept-splice start end (table_on d flat).firsts index (omega arith) has.firsts_in firsts-long)
-
-    pub turn_unfitted : Attempts j points l w w₁ index index₁ None → Turned j points l t w w₁ index index₁ stuck
+    fit_there : fit_on d flat ≡ some f
     unfolding attempted
-    turn_unfitted x = record { answer = round_unfitted d t flat x.answer; firsts = index_kept x; kept = kept_attempt x.kept }
+    fit_there = x.answer
 
-    module _ {y : Measured} (x : Attempts j points l w w₁ index index₁ (Some y)) where
-      abbrev f : Candidate
-      f = candidate_in j points l w₁ index₁
+    most_is : y.largest ≡ largest f.distances
+    unfolding measured
+    most_is = ap (λ (m : Measured). m.largest) x.measures
 
-      fit_there : fit_on d flat ≡ some f
-      unfolding attempted
-      fit_there = x.answer
+    test_is : largest_within t f.distances ≡ le y.largest t
+    unfolding largest_within
+    test_is = ap (λ (m : Float). le m t) (sym most_is)
 
-      most_is : y.largest ≡ largest f.distances
-      unfolding measured
-      most_is = ap (λ (m : Measured). m.largest) x.measures
+    round_fits : le y.largest t ≡ true → refinement_round d t (going flat) ≡ fitted f
+    round_fits h = round-within d t flat f fit_there (test_is ∙ h)
 
-      test_is : largest_within t f.distances ≡ le y.largest t
-      unfolding largest_within
-      test_is = ap (λ (m : Float). le m t) (sym most_is)
+    -- with a splitting after it
+    module _ {k : FlatKnots} {x' : Table} {squares fresh : List Float} {r : Option (Unit {0})}
+        (z : Refined j g'.knots k g'.fit.table x' g'.squares.now squares g'.fresh.now fresh t y.largest r) where
+      next_is : refined_knots d.params (table_on d flat).firsts (d.deviations f.distances) (largest f.distances) t d.degree flat ≡ next_in r k
+      unfolding direction_of
+      next_is = rw (sym x.firsts, sym x.deviations, sym most_is, sym x.knots) z.answer
 
-      pub turn-fits : le y.largest t ≡ true → Turned j points l t w w₁ index index₁ (fitted f)
-      turn-fits h = record { answer = round-within d t flat f fit_there (test_is ∙ h); firsts = index_kept x; kept = kept_attempt x.kept }
-
-      abbrev firsts : List ℕ
-      firsts = part start end index₁
-
-      firsts_are : firsts ≡ (table_on d flat).firsts
-      firsts_are = ap (part start end) x.firsts ∙ part-splice start end (table_on d flat).firsts index (omega arith) has.firsts_in firsts-long
-
-      count_is : length firsts ≡ j.table.count
-      count_is = ap length firsts_are ∙ firsts-long ∙ omega arith
-
-      pub turn-regions : HasSplits j l (length firsts) (length w₁)
-      turn-regions = record {
-        placed = count_is;
-        params_in = has.params_in;
-        flat_in = omega (arith, has.flat_in, has.values_in, has.band_in, has.poles_inside, has.curve_inside);
-        deviations_in = has.deviations_in;
-        fresh_in = omega (arith, has.fresh_in, x.kept.long);
-        least = omega (arith, knots.least);
-        most = knots.most;
-      }
-
-      next_is : next_knots j l firsts y.largest t w₁ ≡ refined_knots d.params (table_on d flat).firsts (d.deviations f.distances) (largest f.distances) t d.degree flat
-      unfolding next_knots direction_of flat_region
-      next_is =
-          let p : part j.params (j.params + j.table.count) w₁ ≡ d.params =
-          kept-part j.table.values (j.deviations + j.table.count) w w₁ x.kept j.params (j.params + j.table.count) (omega arith) (omega (arith, has.params_in, has.flat_in)) in
-          let q : part j.flat (j.flat + l) w₁ ≡ flat =
-          kept-part j.table.values (j.deviations + j.table.count) w w₁ x.kept j.flat (j.flat + l) (omega arith) (omega (arith, knots.most, has.flat_in)) in
-          rw (p, firsts_are, x.deviations, most_is, q)
-
-      -- a round of splitting on this fit
-      module _ (beyond : le y.largest t ≡ false) {w₂ : List Float} (ends : List ℕ) (same : length ends ≡ length firsts) {r : Option ℕ} (z : Splits j l y.largest t firsts w₁ w₂ r) where
-        round_is : refinement_round d t (going flat) ≡ going_on (next_in j r w₂)
-        round_is = round_beyond d t flat f fit_there (test_is ∙ beyond) ∙ ap going_on (sym next_is ∙ z.answer)
-
-        kept-turn : Kept j.flat last w w₂
-        kept-turn = kept_then j.flat last w w₁ w₂ (kept_attempt x.kept) z.kept
-
-        held-turn : Kept start end index (splice start end ends index₁)
-        held-turn =
-            kept_then start end index index₁ (splice start end ends index₁) (index_kept x)
-            (kept-splice start end ends index₁ (omega arith) (omega (arith, has.firsts_in, (index_kept x).long)) (same ∙ count_is ∙ omega arith))
-
-        pub turn-stuck : r ≡ None → Turned j points l t w w₂ index (splice start end ends index₁) stuck
-        unfolding going_on next_in
-        turn-stuck e = record { answer = round_is ∙ ap (λ (o : Option ℕ). going_on (next_in j o w₂)) e; firsts = held-turn; kept = kept-turn }
-
-        pub turn-next : {k : ℕ} → r ≡ Some k
-            → (l < k) × (k ≤ j.table.count + j.table.degree) × Turned j points l t w w₂ index (splice start end ends index₁) (going (flat_region j k w₂))
-        unfolding going_on next_in flat_region
-        turn-next {k} e =
-            let g = z.grows k e in
-            (g.0, g.1, record { answer = round_is ∙ ap (λ (o : Option ℕ). going_on (next_in j o w₂)) e; firsts = held-turn; kept = kept-turn })
+      round_splits : le y.largest t ≡ false → refinement_round d t (going flat) ≡ going_on (next_in r k)
+      round_splits h = round_beyond d t flat f fit_there (test_is ∙ h) ∙ ap going_on next_is
 
 -- ---- the loop
 
-first-knots : (j : Job) → j.table.degree < j.table.count → HasKnots j (2 * j.table.degree + 2)
-first-knots j h = record { least = omega arith; most = omega arith }
+-- regions with other flat knots; and with those, the table, the squares and the new knots of a splitting
+abbrev pub relaid : Regions → FlatKnots → Regions
+relaid g k = record { knots = k; fit = g.fit; band = g.band; curve = g.curve; squares = g.squares; fresh = g.fresh }
 
-module _ (j : Job) (points : List Float) (t : Float) (w₀ : List Float) (index₀ : List ℕ) where
-  abbrev d₀ : Direction
-  d₀ = direction_of j points w₀ index₀
+abbrev pub resplit : Regions → FlatKnots → Table → List Float → List Float → Regions
+resplit g k x squares fresh = record {
+  knots = k;
+  fit = record { table = x; poles = g.fit.poles };
+  band = g.band;
+  curve = g.curve;
+  squares = set_vals squares g.squares;
+  fresh = set_vals fresh g.fresh;
+}
 
-  abbrev goal : Refining
-  goal = refinement_rounds d₀ t j.table.count (going (bezier_knots j.table.degree))
+-- the rounds that are left give what all of them give
+pub record Rounding (j : Job) (t : Float) (g : Regions) : Type 0 where
+  pub regions : HasRegions j g
+  pub knots : HasKnots j g.knots.count
+  pub rest : refinement_rounds (direction_of j) t (length j.params.now + j.degree + 2 - g.knots.count) (going (flat_of g.knots))
+      ≡ refinement_rounds (direction_of j) t (length j.params.now) (going (bezier_knots j.degree))
 
-  abbrev left : ℕ → ℕ
-  left l = j.table.count + j.table.degree + 2 - l
+-- enough rounds, by the job's own numbers
+enough_here : (j : Job) (t : Float) (a b : ℕ) (knots : List Float) → j.degree + 1 ≤ length knots → length knots ≤ length j.params.now + j.degree + 1
+    → length j.params.now + j.degree + 1 < a + length knots → length j.params.now + j.degree + 1 < b + length knots
+    → refinement_rounds (direction_of j) t a (going knots) ≡ refinement_rounds (direction_of j) t b (going knots)
+unfolding direction_of
+enough_here j t a b knots g h p q = enough (direction_of j) t a b knots g h p q
 
-  -- the rounds that are left give what all of them give
-  pub record Rounding (w : List Float) (index : List ℕ) (l : ℕ) : Type 0 where
-    pub first : HasJob j points w₀ index₀
-    pub has : HasJob j points w index
-    pub knots : HasKnots j l
-    pub kept : Kept j.flat (j.fresh + j.table.count) w₀ w
-    pub firsts : Kept j.table.firsts (j.table.firsts + j.table.count) index₀ index
-    pub rest : refinement_rounds d₀ t (left l) (going (flat_region j l w)) ≡ goal
-
-  module _ (has₀ : HasJob j points w₀ index₀) where
-    degree_is : d₀.degree ≡ j.table.degree
-    unfolding direction_of
-    degree_is = refl
-
-    params_are : length d₀.params ≡ j.table.count
-    params_are = params-long j points w₀ index₀ has₀
-
-    -- enough rounds, by the job's own numbers
-    enough_here : (a b : ℕ) (flat : List Float) → j.table.degree + 1 ≤ length flat → length flat ≤ j.table.count + j.table.degree + 1
-        → j.table.count + j.table.degree + 1 < a + length flat → j.table.count + j.table.degree + 1 < b + length flat
-        → refinement_rounds d₀ t a (going flat) ≡ refinement_rounds d₀ t b (going flat)
-    enough_here a b flat g h p q =
-        enough d₀ t a b flat (omega (arith, degree_is)) (omega (arith, degree_is, params_are)) (omega (arith, degree_is, params_are)) (omega (arith, degree_is, params_are))
-
-    goal_is : fit_with_refined_knots d₀ t ≡ fit_in goal
-    unfolding fit_with_refined_knots
-    goal_is =
-        ap (λ (n : ℕ). fit_in (refinement_rounds d₀ t n (going (bezier_knots d₀.degree)))) params_are
-        ∙ ap (λ (n : ℕ). fit_in (refinement_rounds d₀ t j.table.count (going (bezier_knots n)))) degree_is
-
-    -- from the knots of a single piece
-    pub rounding-start : flat_region j (2 * j.table.degree + 2) w₀ ≡ bezier_knots j.table.degree → Rounding w₀ index₀ (2 * j.table.degree + 2)
-    rounding-start e =
-        let l : ℕ = 2 * j.table.degree + 2 in
-        let size : length (bezier_knots j.table.degree) ≡ l = length_bezier j.table.degree ∙ omega arith in
-        record {
-          first = has₀;
-          has = has₀;
-          knots = first-knots j has₀.under;
-          kept = kept_same j.flat (j.fresh + j.table.count) w₀;
-          firsts = kept_same j.table.firsts (j.table.firsts + j.table.count) index₀;
-          rest =
-              ap (λ (v : List Float). refinement_rounds d₀ t (left l) (going v)) e
-              ∙ enough_here (left l) j.table.count (bezier_knots j.table.degree) (omega arith) (omega (arith, has₀.under)) (omega (arith, has₀.under)) (omega (arith, has₀.under));
-        }
-
-  module _ {w : List Float} {index : List ℕ} {l : ℕ} (v : Rounding w index l) where
-    direction-same : direction_of j points w index ≡ d₀
-    direction-same = direction-kept j points w₀ w index₀ index (j.fresh + j.table.count) (j.table.firsts + j.table.count) v.first v.kept v.firsts
-
-    abbrev more : ℕ
-    more = j.table.count + j.table.degree + 1 - l
-
-    module _ {w' : List Float} {index' : List ℕ} where
-      -- the rest, after this round
-      rest_is : {s : Refining} → Turned j points l t w w' index index' s → goal ≡ refinement_rounds d₀ t more s
-      rest_is x =
-          let z : left l ≡ suc more = omega (arith, v.knots.most) in
-          sym v.rest
-          ∙ ap (λ (n : ℕ). refinement_rounds d₀ t n (going (flat_region j l w))) z
-          ∙ rounds-suc d₀ t more (going (flat_region j l w))
-          ∙ ap (λ (e : Direction). refinement_rounds d₀ t more (refinement_round e t (going (flat_region j l w)))) (sym direction-same)
-          ∙ ap (refinement_rounds d₀ t more) x.answer
-
-      kept_all : {s : Refining} → Turned j points l t w w' index index' s → Kept j.flat (j.fresh + j.table.count) w₀ w'
-      kept_all x = kept_then j.flat (j.fresh + j.table.count) w₀ w w' v.kept x.kept
-
-      held_all : {s : Refining} → Turned j points l t w w' index index' s → Kept j.table.firsts (j.table.firsts + j.table.count) index₀ index'
-      held_all x = kept_then j.table.firsts (j.table.firsts + j.table.count) index₀ index index' v.firsts x.firsts
-
-      pub rounding_ended : Turned j points l t w w' index index' stuck → RefinesWithin j points t w₀ w' index₀ index' None
-      unfolding refined_in fit_in
-      rounding_ended x = record { answer = goal_is v.first ∙ ap fit_in (rest_is x ∙ rounds-stuck d₀ t more); reaches = missed (held_all x) (kept_all x) }
-
-      pub rounding-fits : {y : Measured} → y ≡ measured (candidate_in j points l w' index').distances → Turned j points l t w w' index index' (fitted (candidate_in j points l w' index'))
-          → RefinesWithin j points t w₀ w' index₀ index' (Some (record { flat = l; measured = y }))
-      unfolding refined_in fit_in
-      rounding-fits m x = record {
-        answer = goal_is v.first ∙ ap fit_in (rest_is x ∙ rounds-fitted d₀ t more (candidate_in j points l w' index'));
-        reaches = met _ v.knots m (held_all x) (kept_all x);
+module _ {j : Job} {t : Float} where
+  -- from the knots of a single piece
+  pub rounding_start : {g : Regions} {k : FlatKnots} → HasRegions j g → Laid g.knots k (2 * j.degree + 2) (bezier_knots j.degree) → Rounding j t (relaid g k)
+  rounding_start {g} {k} has x =
+      let h = j.inside.under in
+      let size : length (bezier_knots j.degree) ≡ 2 * j.degree + 2 = length_bezier j.degree ∙ omega arith in
+      record {
+        regions = record {
+          degree = has.degree;
+          flat = x.places ∙ has.flat;
+          firsts = has.firsts;
+          values = has.values;
+          band = has.band;
+          poles = has.poles;
+          curve = has.curve;
+          squares = has.squares;
+          fresh = has.fresh;
+        };
+        knots = record { least = omega (arith, x.count); most = omega (arith, x.count) };
+        rest =
+            ap (λ (v : List Float). refinement_rounds (direction_of j) t (length j.params.now + j.degree + 2 - k.count) (going v)) x.knots
+            ∙ enough_here j t (length j.params.now + j.degree + 2 - k.count) (length j.params.now) (bezier_knots j.degree) (omega arith) (omega arith) (omega (arith, x.count)) (omega arith);
       }
 
-      pub rounding-next : {k : ℕ} → (l < k) × (k ≤ j.table.count + j.table.degree) × Turned j points l t w w' index index' (going (flat_region j k w')) → Rounding w' index' k
-      unfolding flat_region
-      rounding-next {k} (grows, few, x) =
-          let long : length (part j.flat (j.flat + k) w') ≡ k =
-          length_part j.flat (j.flat + k) w'
-          (omega (arith, few, x.kept.long, v.has.flat_in, v.has.values_in, v.has.band_in, v.has.poles_inside, v.has.curve_inside, v.has.deviations_in, v.has.fresh_in))
-          ∙ omega arith in
-          record {
-            first = v.first;
-            has = has_job-kept j points w w' index index' (j.fresh + j.table.count) (j.table.firsts + j.table.count) v.has x.kept x.firsts;
-            knots = record { least = omega (arith, grows, v.knots.least); most = omega (arith, few) };
-            kept = kept_all x;
-            firsts = held_all x;
-            rest =
-                sym
-                (rest_is x
-                ∙ enough_here v.first more (left k) (part j.flat (j.flat + k) w') (omega (arith, grows, v.knots.least)) (omega (arith, few)) (omega (arith, grows, few)) (omega (arith, few)));
-          }
+  module _ {g : Regions} (v : Rounding j t g) where
+    abbrev more : ℕ
+    more = length j.params.now + j.degree + 1 - g.knots.count
 
--- ---- from the knots of a single piece, which are put there first
+    -- the rest, after this round
+    rest_is : {s : Refining} → refinement_round (direction_of j) t (going (flat_of g.knots)) ≡ s
+        → refinement_rounds (direction_of j) t (length j.params.now) (going (bezier_knots j.degree)) ≡ refinement_rounds (direction_of j) t more s
+    rest_is x =
+        let z : length j.params.now + j.degree + 2 - g.knots.count ≡ suc more = omega (arith, v.knots.most) in
+        sym v.rest
+        ∙ ap (λ (n : ℕ). refinement_rounds (direction_of j) t n (going (flat_of g.knots))) z
+        ∙ rounds-suc (direction_of j) t more (going (flat_of g.knots))
+        ∙ ap (refinement_rounds (direction_of j) t more) x
 
-pub piece_put : (j : Job) (w ys : List Float) → ys ≡ bezier_knots j.table.degree
-    → splice j.flat (j.flat + (2 * j.table.degree + 2)) ys w ≡ splice j.flat (j.flat + (2 * j.table.degree + 2)) (bezier_knots j.table.degree) w
-piece_put j w ys e = ap (λ (v : List Float). splice j.flat (j.flat + (2 * j.table.degree + 2)) v w) e
+    -- an end without a fit
+    ended : {g' : Regions} → HasRegions j g' → refinement_round (direction_of j) t (going (flat_of g.knots)) ≡ stuck → RefinesWithin j t g' None
+    unfolding attempted fit_with_refined_knots fit_in direction_of
+    ended has x = record {
+      answer = ap fit_in (rest_is x ∙ rounds-stuck (direction_of j) t more);
+      reaches = record { measures = tt; few = tt; regions = has };
+    }
 
-module _ {j : Job} {points w : List Float} {index : List ℕ} (has : HasJob j points w index) {w₀ : List Float}
-    (put : w₀ ≡ splice j.flat (j.flat + (2 * j.table.degree + 2)) (bezier_knots j.table.degree) w) where
-  abbrev few : ℕ
-  few = 2 * j.table.degree + 2
+    module _ {g' : Regions} where
+      pub rounding_ended : Attempts j g g' None → RefinesWithin j t g' None
+      rounding_ended x = ended x.regions (round_stuck j t g g' x)
 
-  abbrev piece : List Float
-  piece = bezier_knots j.table.degree
+      module _ {y : Measured} (x : Attempts j g g' (Some y)) where
+        pub rounding_fits : le y.largest t ≡ true → RefinesWithin j t g' (Some y)
+        unfolding attempted fit_with_refined_knots fit_in direction_of
+        rounding_fits h = record {
+          answer = ap fit_in (rest_is (round_fits j t g g' x h) ∙ rounds-fitted (direction_of j) t more (candidate_in j g'));
+          reaches = record {
+            measures = x.measures;
+            few = record { least = omega (arith, x.count, v.knots.least); most = omega (arith, x.count, v.knots.most) };
+            regions = x.regions;
+          };
+        }
 
-  size : length piece ≡ few
-  size = length_bezier j.table.degree ∙ omega arith
+        module _ (beyond : le y.largest t ≡ false) {k : FlatKnots} {x' : Table} {squares fresh : List Float} where
+          split_regions : {r : Option (Unit {0})} → Refined j g'.knots k g'.fit.table x' g'.squares.now squares g'.fresh.now fresh t y.largest r
+              → HasRegions j (resplit g' k x' squares fresh)
+          split_regions z =
+              let has = x.regions in
+              record {
+                degree = z.degree ∙ has.degree;
+                flat = z.places ∙ has.flat;
+                firsts = z.firsts ∙ has.firsts;
+                values = z.values ∙ has.values;
+                band = has.band;
+                poles = has.poles;
+                curve = has.curve;
+                squares = z.for_squares ∙ has.squares;
+                fresh = z.for_fresh ∙ has.fresh;
+              }
 
-  kept_piece : Kept j.flat (j.flat + few) w w₀
-  kept_piece = kept-knots j points w index has few (first-knots j has.under) w₀ piece size put
+          pub rounding_stuck : Refined j g'.knots k g'.fit.table x' g'.squares.now squares g'.fresh.now fresh t y.largest None
+              → RefinesWithin j t (resplit g' k x' squares fresh) None
+          unfolding going_on next_in
+          rounding_stuck z = ended (split_regions z) (round_splits j t g g' x z beyond)
 
-  pub loop-start : (t : Float) → Rounding j points t w₀ index w₀ index few
-  loop-start t =
-      rounding-start j points t w₀ index (has_job_put j points w index has few (first-knots j has.under) w₀ piece size put)
-      (flat_put j points w index has few (first-knots j has.under) w₀ piece size put)
-
-  pub loop_end : {t : Float} {w' : List Float} {index' : List ℕ} {r : Option Reached} → RefinesWithin j points t w₀ w' index index' r → RefinesWithin j points t w w' index index' r
-  loop_end {t} x = record {
-    answer = ap (λ (d : Direction). fit_with_refined_knots d t) (sym (direction_put j points w index has few (first-knots j has.under) w₀ piece size put)) ∙ x.answer;
-    reaches =
-        reaches_later x.reaches (kept_same j.table.firsts (j.table.firsts + j.table.count) index)
-        (kept_wider j.flat (j.flat + few) j.flat (j.fresh + j.table.count) w w₀ (omega arith)
-        (omega (arith, has.under, has.flat_in, has.values_in, has.band_in, has.poles_inside, has.curve_inside, has.deviations_in)) kept_piece);
-  }
+          pub rounding_next : Refined j g'.knots k g'.fit.table x' g'.squares.now squares g'.fresh.now fresh t y.largest (Some tt)
+              → Rounding j t (resplit g' k x' squares fresh)
+          unfolding going_on next_in
+          rounding_next z =
+              let grows : (g'.knots.count < k.count) × (k.count ≤ length j.params.now + j.degree) = z.grows in
+              let has = x.regions in
+              let long : length (flat_of k) ≡ k.count = length-take-le k.count k.places.now (omega (arith, grows.1, z.places, has.flat)) in
+              record {
+                regions = split_regions z;
+                knots = record { least = omega (arith, grows.0, x.count, v.knots.least); most = omega (arith, grows.1) };
+                rest =
+                    sym
+                    (rest_is (round_splits j t g g' x z beyond)
+                    ∙ enough_here j t more (length j.params.now + j.degree + 2 - k.count) (flat_of k) (omega (arith, grows.0, x.count, v.knots.least)) (omega (arith, grows.1))
+                    (omega (arith, grows.0, x.count, grows.1)) (omega (arith, grows.1)));
+              }

@@ -1,5 +1,5 @@
 -- What is given to be fitted along a direction. Definitions only.
-use Rattle.std.specs.Prelude.{◌≡◌, List, ℕ, ◌+◌, ◌*◌, ◌≤◌, ◌<◌, length, Float}
+use Rattle.std.specs.Prelude.{◌≡◌, List, ℕ, ◌*◌, ◌≤◌, ◌<◌, length, Float}
 use Rattle.knots.specs.declared.lines.Lines.{Lines}
 use Rattle.tables.specs.Layout.{HasTable}
 use Rattle.fitting.specs.declared.Kind.{Kind}

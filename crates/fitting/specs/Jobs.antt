@@ -1,5 +1,5 @@
 -- The fitting of one direction: which direction a job is, and which fit stands in the regions. Definitions only.
-use Rattle.std.specs.Prelude.{◌≡◌, Bool, List, ℕ, ◌+◌, ◌-◌, ◌*◌, ◌≤◌, ◌<◌, length, take, Float, Option, Some, None, IfSome, OnSome}
+use Rattle.std.specs.Prelude.{◌≡◌, Bool, List, ℕ, ◌+◌, ◌-◌, ◌*◌, ◌≤◌, length, take, Float, Option, Some, None, IfSome, OnSome}
 use Rattle.std.proofs.Math.Option.{Option as Maybe, none, some}
 use Rattle.geometry.specs.Root.{roots_of}
 use Rattle.knots.specs.declared.lines.Lines.{Lines}

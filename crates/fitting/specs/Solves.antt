@@ -1,5 +1,5 @@
 -- The poles of a fit, and what its measuring asks. Definitions only.
-use Rattle.std.specs.Prelude.{◌≡◌, Bool, cond, List, ℕ, ◌+◌, ◌*◌, ◌≤◌, length, take, Float}
+use Rattle.std.specs.Prelude.{◌≡◌, Bool, cond, List, ℕ, ◌*◌, ◌≤◌, length, take, Float}
 use Rattle.std.proofs.Math.Option.{none, some}
 use Rattle.knots.specs.declared.lines.Lines.{Lines}
 use Rattle.knots.specs.OnLines.{on_lines}

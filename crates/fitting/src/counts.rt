@@ -9,6 +9,7 @@ use search::Search;
 use tables::Measured;
 
 // Document 01's test of a pole count on spread knots. A ladder's distances are all at most the tolerance where none is NaN and the largest is.
+#[tactic(auto, using(crate::proofs::CountLaws::tested_unfitted, crate::proofs::CountLaws::tested_unread, crate::proofs::CountLaws::tested_ladder, crate::proofs::CountLaws::tested_grid))]
 pub fn passes(job: Job, at: &mut Regions, tolerance: f64, m: usize) -> bool
     requires { HasRegions job at.old × (job.degree < m) × (m ≤ length job.params.now) }
     ensures { Tested job.entry tolerance m at.new result }
@@ -24,7 +25,13 @@ pub fn passes(job: Job, at: &mut Regions, tolerance: f64, m: usize) -> bool
 }
 
 // The fewest poles that the search finds below `last`.
-pub fn fit_with_fewest_poles(job: Job, at: &mut Regions, tolerance: f64, last: usize) -> Option<usize>
+#[tactic(auto, using(crate::proofs::CountLaws::searching_start, crate::proofs::CountLaws::searching_bounded, crate::proofs::CountLaws::searching_count, crate::proofs::CountLaws::searching_fitted, crate::proofs::CountLaws::searching_failed))]
+pub fn fit_with_fewest_poles(
+    job: Job,
+    at: &mut Regions,
+    tolerance: f64,
+    last: usize,
+) -> Option<usize>
     requires { HasRegions job at.old × (job.degree < last) × (last ≤ length job.params.now) }
     ensures { FewestFound job.entry tolerance last at.new result }
 {
@@ -40,7 +47,13 @@ pub fn fit_with_fewest_poles(job: Job, at: &mut Regions, tolerance: f64, last: u
 }
 
 // The fit on spread knots with the poles that the search finds below `last`. The search's tries stand in the same places, so its fit is made once more.
-pub fn fit_on_spread_knots(job: Job, at: &mut Regions, tolerance: f64, last: usize) -> Option<Measured>
+#[tactic(auto, using(crate::proofs::CountLaws::spread_none, crate::proofs::CountLaws::found_between, crate::proofs::CountLaws::spread_unfitted, crate::proofs::CountLaws::spread_fit))]
+pub fn fit_on_spread_knots(
+    job: Job,
+    at: &mut Regions,
+    tolerance: f64,
+    last: usize,
+) -> Option<Measured>
     requires { HasRegions job at.old × (job.degree < last) × (last ≤ length job.params.now) }
     ensures { SpreadsBelow job.entry tolerance last at.new result }
 {

@@ -8,6 +8,7 @@ use tables::Measured;
 
 // Refinement: from a single Bézier piece, rounds of least squares and splitting, until a fit's largest deviation is within the tolerance; none where a round
 // gives no fit or splits no span.
+#[tactic(auto, using(crate::proofs::RoundsLaws::rounding_start, crate::proofs::RoundsLaws::rounding_ended, crate::proofs::RoundsLaws::rounding_fits, crate::proofs::RoundsLaws::rounding_stuck))]
 pub fn fit_with_refined_knots(job: Job, at: &mut Regions, tolerance: f64) -> Option<Measured>
     requires { HasRegions job at.old }
     ensures { RefinesWithin job.entry tolerance at.new result }
@@ -19,6 +20,13 @@ pub fn fit_with_refined_knots(job: Job, at: &mut Regions, tolerance: f64) -> Opt
         if most <= tolerance {
             return Some(measured);
         }
-        at.knots.refine(job, &mut at.fit.table, at.squares, at.fresh, tolerance, most)?;
+        at.knots.refine(
+            job,
+            &mut at.fit.table,
+            at.squares,
+            at.fresh,
+            tolerance,
+            most,
+        )?;
     }
 }
