@@ -11,15 +11,13 @@ use lib.Ieee.{Float, le}
 use borrow.Author.Tests.{eqb-true, eqb-false}
 use Rattle.std.specs.Prelude.{Option, Some, None}
 use Rattle.places.specs.Places.{list_of}
-use Rattle.places.proofs.PlaceLaws.{list_of-same, length-list_of}
-use Rattle.geometry.specs.Points.{squared_distance, point_at}
+use Rattle.places.proofs.PlaceLaws.{length-list_of}
 use Rattle.geometry.specs.Root.{roots_of}
-use Rattle.geometry.proofs.PointLaws.{distance_root, squared-fits}
-use Rattle.geometry.proofs.Roots.{roots-list_of, Held, held-list_of}
 use Rattle.tables.specs.declared.Measured.{Measured}
-use Rattle.tables.specs.BasisTable.{BasisTable, basis_table, parameter_count, table_point}
-use Rattle.tables.specs.Deviations.{ladder_distances, all_within, largest_within, unreadable}
+use Rattle.tables.specs.BasisTable.{BasisTable, basis_table, parameter_count}
+use Rattle.tables.specs.Deviations.{all_within, largest_within, unreadable}
 use Rattle.tables.specs.Measures.{measured}
+use Rattle.tables.proofs.MeasureLaws.{ladder_square, ladder-rooted, ladder-held}
 use Rattle.search.specs.declared.Search.{Search}
 use Rattle.search.specs.Search.{start, next_of, fitted_at, failed_at, answer}
 use Rattle.search.specs.Bounds.{Bounded}
@@ -34,19 +32,6 @@ use Rattle.fitting.specs.Flat.{flat_of}
 use Rattle.fitting.specs.Within.{Marked, pole_count, candidate, table_on, spread, candidate_passes, passes_on_spread, spread_or, found_or, fit_on_spread_knots}
 use Rattle.fitting.specs.Jobs.{distances_by, within_by, direction_of, poles_in, candidate_in, attempted, HasRegions, AttemptsSpread, Tested, FewestFound, spread_in, SpreadsBelow}
 use Rattle.fitting.proofs.DeviationLaws.{all-unread, all-largest}
-
--- ---- a ladder's distances are the roots of their squares
-abbrev ladder_square : Float → BasisTable → List Float → List Float → ℕ → Float
-ladder_square f t poles s k = squared_distance f (table_point t poles 0 k) (point_at s k)
-
-module _ (f : Float) (t : BasisTable) (poles s : List Float) where
-  ladder-rooted : ladder_distances f t poles s ≡ roots_of (list_of (parameter_count t) (ladder_square f t poles s))
-  unfolding ladder_distances
-  ladder-rooted =
-      sym (roots-list_of (parameter_count t) (ladder_square f t poles s) ∙ list_of-same (parameter_count t) _ _ (λ k h. sym (distance_root f (table_point t poles 0 k) (point_at s k))))
-
-  ladder-held : (n : ℕ) → Held (list_of n (ladder_square f t poles s))
-  ladder-held n = held-list_of n (ladder_square f t poles s) (λ k. squared-fits f (table_point t poles 0 k) (point_at s k))
 
 -- ---- one count's test, from what the attempt at it came to
 module _ {j : Job} {m : ℕ} {g : Regions} where

@@ -25,7 +25,7 @@ pub fn passes(job: Job, at: &mut Regions, tolerance: f64, m: usize) -> bool
 }
 
 // The fewest poles that the search finds below `last`.
-#[tactic(auto, using(crate::proofs::CountLaws::searching_start, crate::proofs::CountLaws::searching_bounded, crate::proofs::CountLaws::searching_count, crate::proofs::CountLaws::searching_fitted, crate::proofs::CountLaws::searching_failed))]
+#[tactic(auto, using(crate::proofs::CountLaws::searching_start, crate::proofs::CountLaws::searching_bounded, crate::proofs::CountLaws::searching_count))]
 pub fn fit_with_fewest_poles(
     job: Job,
     at: &mut Regions,
