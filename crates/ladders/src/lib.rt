@@ -1,12 +1,13 @@
 // The ladder calls (document 01, part 3: `interpolate`, `approximate`, `approximate_within`, the spread search alone): their checks, then the fit, then work and index cleared.
 #![tactic(auto)]
 
-ghost use Rattle.std.specs.Prelude.{◌≡◌, ◌/◌, [], length};
+ghost use Rattle.std.specs.Prelude.{◌≡◌, ◌/◌, ◌<◌, [], length};
 ghost use Rattle.bspline.specs.Refusals.{pass};
 ghost use Rattle.knots.specs.OnLines.{on_lines};
 ghost use Rattle.tables.specs.Directions.{ladder as ladder_direction, ladder_point};
 ghost use Rattle.checks.specs.LadderChecks.{Roomy, Shaped, room_of, count_verdict};
 ghost use Rattle.checks.specs.Slices.{lent_in, lent_with, SameOutput, SameSlices};
+ghost use Rattle.fitting.specs.Jobs.{direction_of, sizes_of};
 ghost use Rattle.making.specs.Results.{fit_by};
 ghost use Rattle.ladders.specs.Ladders.{ladder_fit, HandsOut, LadderCall, Interpolates, Approximates, ApproximatesWithin, SearchesSpread};
 ghost use Rattle.ladders.specs.Standing.{HasOutput, HasRoom, HandsStanding, Passed};
@@ -56,21 +57,40 @@ fn line_of(ladder: Ladder) -> Lines
     }
 }
 
+// A ladder with its parameters, as a direction to be fitted.
+#[tactic(auto, using(crate::proofs::RunLaws::has_ladder_job, crate::proofs::RunLaws::direction_is), unfolding(fitting::specs::Solves::curve_places))]
+fn job_of<'a, 'b, 'c, 'd>(ladder: Ladder<'b>, params: &'a [f64]) -> Job<'a, 'b, 'c, 'd>
+    requires shaped { Shaped (length ladder.points.now) ladder.degree × (ladder.degree < length params.now) }
+    requires as_many { length params.now ≡ length ladder.points.now / 3 }
+    ensures direction { direction_of result ≡ ladder_direction ladder.entry.metric.factor ladder.entry.points.now ladder.entry.degree params.now }
+    ensures sizes { sizes_of result ≡ record { degree = ladder.entry.degree; count = length params.now; lines = 1; curve = 0 } }
+{
+    Job {
+        degree: ladder.degree,
+        factor: ladder.metric.factor,
+        params,
+        lines: line_of(ladder),
+        kind: Kind::Ladder,
+    }
+}
+
 // The call on a ladder with its parameters, handed out.
-fn fit_params(ladder: Ladder, call: Call, params: &[f64], out: &mut Output, work: &mut [f64], index: &mut [usize]) -> Result<Fit, Refusal>
+#[tactic(auto, using(checks::proofs::CheckLaws::count_under))]
+fn fit_params(
+    ladder: Ladder,
+    call: Call,
+    params: &[f64],
+    out: &mut Output,
+    work: &mut [f64],
+    index: &mut [usize],
+) -> Result<Fit, Refusal>
     requires passed { Passed call ladder (length params.now) }
     requires room { HasOutput (length params.now) ladder.degree out.old × HasRoom ladder.degree (length params.now) (length work.old) (length index.old) }
     ensures hands { HandsOut ladder.entry.degree (fit_by call (ladder_direction ladder.entry.metric.factor ladder.entry.points.now ladder.entry.degree params.now))
         (lent_with out.old [] []) (lent_with out.new [] []) result }
     ensures same { SameOutput out.old out.new }
 {
-    let job = Job {
-        degree: ladder.degree,
-        factor: ladder.metric.factor,
-        params,
-        lines: line_of(ladder),
-        kind: Kind::Ladder,
-    };
+    let job = job_of(ladder, params);
     let sizes = Sizes {
         degree: ladder.degree,
         count: params.len(),
@@ -88,7 +108,14 @@ fn fit_params(ladder: Ladder, call: Call, params: &[f64], out: &mut Output, work
 }
 
 // The call on a ladder that passed the checks, or 5.
-fn fit_passed(ladder: Ladder, call: Call, out: &mut Output, work: &mut [f64], index: &mut [usize]) -> Result<Fit, Refusal>
+#[tactic(auto, unfolding(fitting::specs::Room::places_of))]
+fn fit_passed(
+    ladder: Ladder,
+    call: Call,
+    out: &mut Output,
+    work: &mut [f64],
+    index: &mut [usize],
+) -> Result<Fit, Refusal>
     requires shaped { Shaped (length ladder.points.now) ladder.degree × (count_verdict call (length ladder.points.now / 3) ladder.degree ≡ pass) }
     requires roomy { Roomy (length ladder.points.now / 3) ladder.degree (room_of (lent_with out.old work.old index.old)) }
     ensures hands { HandsOut ladder.entry.degree (ladder_fit ladder.entry.metric ladder.entry.points.now ladder.entry.degree (fit_by call))
@@ -129,7 +156,11 @@ pub fn approximate(ladder: Ladder, count: usize, slices: &mut Slices) -> Result<
 }
 
 // `approximate_within`: refinement, else the spread search, else the curve through the points.
-pub fn approximate_within(ladder: Ladder, tolerance: f64, slices: &mut Slices) -> Result<Fit, Refusal>
+pub fn approximate_within(
+    ladder: Ladder,
+    tolerance: f64,
+    slices: &mut Slices,
+) -> Result<Fit, Refusal>
     ensures call { ApproximatesWithin ladder.entry.points.now ladder.entry.degree tolerance ladder.entry.metric (lent_in slices.old) (lent_in slices.new) result }
     ensures same { SameSlices slices.old slices.new }
 {

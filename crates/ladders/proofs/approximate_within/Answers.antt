@@ -2,5 +2,5 @@
 use Rattle.ladders.proofs.LadderLaws.{approximates-within}
 use Rattle.ladders.proofs.approximate_within.Goals as goal
 
-pub returns : goal.returns
-returns c = approximates-within _ _ _ _ _ _ _ c.fit_ladder.ensures
+pub returns-clause-call : goal.returns-clause-call
+returns-clause-call c = search (approximates-within)

@@ -2,5 +2,5 @@
 use Rattle.ladders.proofs.LadderLaws.{searches-spread}
 use Rattle.ladders.proofs.search_spread.Goals as goal
 
-pub returns : goal.returns
-returns c = searches-spread _ _ _ _ _ _ _ c.fit_ladder.ensures
+pub returns-clause-call : goal.returns-clause-call
+returns-clause-call c = search (searches-spread)
