@@ -3,14 +3,12 @@ use mathlib.Core.Path.{◌≡◌, refl, sym, ◌∙◌, ap, subst}
 use mathlib.Core.Bool.{true, false}
 use mathlib.Core.List.{List, ◌++◌}
 use mathlib.Core.Option.{Option, none, some}
-use Prim.Native.Nat.{ℕ, ◌+◌, ◌-◌, ◌*◌, ◌<◌, ◌≤◌}
+use Prim.Native.Nat.{ℕ, ◌+◌, ◌*◌, ◌<◌, ◌≤◌}
 use native.Mathlib.Omega.{arith}
 use lib.ListN.{length, take, drop}
 use lib.Ieee.{Float, nan}
 use Rattle.places.specs.Loops.{Outcome, outcome}
 use Rattle.places.specs.Places.{joined, laid, all_below}
-use Rattle.places.specs.Regions.{part}
-use Rattle.places.proofs.RegionLaws.{length_part}
 use Rattle.places.proofs.PlaceLaws.{list_of_all, length-joined, part-laid, laid_copy}
 use Rattle.geometry.specs.declared.Point.{Point}
 use Rattle.geometry.specs.Doubles.{at, largest, is_finite}
@@ -107,14 +105,9 @@ spread_from d c f h e = spread-fit (Sized d) d c (spread_sized d c (omega arith)
 pub taken : (xs ys : List Float) → length xs ≤ length ys → take (length xs) (laid 0 (length xs) (at xs) ys) ≡ xs
 taken xs ys h = part-laid 0 (length xs) (at xs) ys nan (omega arith) ∙ list_of_all (length xs) xs nan refl
 
--- ---- copies of parts
-
-pub handed_copy : (a e : ℕ) (w to ys : List Float) → e ≤ length w → e - a ≤ length to → ys ≡ part a e w → ys ++ drop (e - a) to ≡ laid 0 (length (part a e w)) (at (part a e w)) to
-handed_copy a e w to ys inside room copied =
-    let long : length (part a e w) ≡ e - a = length_part a e w inside in
-    ap (λ (l : List Float). l ++ drop (e - a) to) copied
-    ∙ ap (λ (m : ℕ). part a e w ++ drop m to) (sym long)
-    ∙ sym (laid_copy (part a e w) to nan (subst (λ m. m ≤ length to) (sym long) room))
+-- the places beyond stay
+pub handed_copy : (xs ys : List Float) → length xs ≤ length ys → xs ++ drop (length xs) ys ≡ laid 0 (length xs) (at xs) ys
+handed_copy xs ys h = sym (laid_copy xs ys nan h)
 
 -- ---- from the mark that is handed back to the fit behind it
 pub refined_mark : (a : Marked) (x : Float) → mark_of a ≡ Refined x → (f : Candidate) × (a ≡ refined f)

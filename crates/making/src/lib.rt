@@ -56,6 +56,7 @@ fn make_through(job: Job, at: &mut Regions) -> Result<Standing, Refusal>
 }
 
 // With a chosen pole count; 6 where least squares gives none.
+#[tactic(auto, using(crate::proofs::MakeLaws::chosen_unfitted))]
 fn make_chosen(job: Job, at: &mut Regions, count: usize) -> Result<Standing, Refusal>
     requires { HasRegions job at.old × (job.degree < count) × (count ≤ length job.params.now) }
     ensures { Makes job.entry (fit_by (Approximate count) (direction_of job.entry)) at.new result }
@@ -68,6 +69,7 @@ fn make_chosen(job: Job, at: &mut Regions, count: usize) -> Result<Standing, Ref
 }
 
 // By the spread search, else through the points.
+#[tactic(auto, using(crate::proofs::MakeLaws::spread_missed))]
 fn make_spread(job: Job, at: &mut Regions, tolerance: f64) -> Result<Standing, Refusal>
     requires { HasRegions job at.old }
     ensures { Makes job.entry (fit_by (SearchSpread tolerance) (direction_of job.entry)) at.new result }
@@ -82,6 +84,7 @@ fn make_spread(job: Job, at: &mut Regions, tolerance: f64) -> Result<Standing, R
 }
 
 // By refinement, else by the spread search.
+#[tactic(auto, using(crate::proofs::MakeLaws::refined_missed))]
 fn make_within(job: Job, at: &mut Regions, tolerance: f64) -> Result<Standing, Refusal>
     requires { HasRegions job at.old }
     ensures { Makes job.entry (fit_by (ApproximateWithin tolerance) (direction_of job.entry)) at.new result }
@@ -96,7 +99,13 @@ fn make_within(job: Job, at: &mut Regions, tolerance: f64) -> Result<Standing, R
 }
 
 // By the spread search below the poles of the refined fit that stands in the regions; else that fit.
-fn make_fewer(job: Job, at: &mut Regions, saved: &mut SavedFit, tolerance: f64, refined: Measured) -> Result<Standing, Refusal>
+fn make_fewer(
+    job: Job,
+    at: &mut Regions,
+    saved: &mut SavedFit,
+    tolerance: f64,
+    refined: Measured,
+) -> Result<Standing, Refusal>
     requires stands { HasRegions job at.old × HasKnots job at.old.knots.count × (refined ≡ measured (candidate_in job at.old).distances) }
     requires room { HasSaved job saved.old }
     ensures { Makes job.entry (Ok (fewer_or (direction_of job.entry) tolerance (some (candidate_in job.entry at.old)))) at.new result }
@@ -121,7 +130,13 @@ fn make_fewer(job: Job, at: &mut Regions, saved: &mut SavedFit, tolerance: f64, 
 }
 
 // By refinement and then the spread search below it (`fit_within_fewest`); else by the spread search.
-fn make_fewest(job: Job, at: &mut Regions, saved: &mut SavedFit, tolerance: f64) -> Result<Standing, Refusal>
+#[tactic(auto, using(crate::proofs::SavedLaws::fewest_missed, crate::proofs::SavedLaws::fewest_met))]
+fn make_fewest(
+    job: Job,
+    at: &mut Regions,
+    saved: &mut SavedFit,
+    tolerance: f64,
+) -> Result<Standing, Refusal>
     requires { HasRegions job at.old × HasSaved job saved.old }
     ensures { Makes job.entry (Ok (fit_within_fewest (direction_of job.entry) tolerance)) at.new result }
 {
@@ -132,7 +147,13 @@ fn make_fewest(job: Job, at: &mut Regions, saved: &mut SavedFit, tolerance: f64)
 }
 
 // By what a grid's direction is fitted to.
-pub fn make_direction(job: Job, at: &mut Regions, saved: &mut SavedFit, aim: Aim) -> Result<Standing, Refusal>
+#[tactic(auto, using(crate::proofs::MakeLaws::counts), unfolding(crate::specs::Results::fit_to, crate::specs::Results::fit_by))]
+pub fn make_direction(
+    job: Job,
+    at: &mut Regions,
+    saved: &mut SavedFit,
+    aim: Aim,
+) -> Result<Standing, Refusal>
     requires { HasRegions job at.old × HasSaved job saved.old × (aim_verdict aim (length job.params.now) job.degree ≡ pass) }
     ensures { Makes job.entry (fit_to aim (direction_of job.entry)) at.new result }
 {
@@ -143,6 +164,7 @@ pub fn make_direction(job: Job, at: &mut Regions, saved: &mut SavedFit, aim: Aim
 }
 
 // By what the call asks for.
+#[tactic(auto, using(crate::proofs::MakeLaws::counts))]
 pub fn make(job: Job, at: &mut Regions, call: Call) -> Result<Standing, Refusal>
     requires { HasRegions job at.old × (count_verdict call (length job.params.now) job.degree ≡ pass) }
     ensures { Makes job.entry (fit_by call (direction_of job.entry)) at.new result }

@@ -5,19 +5,21 @@ ghost use Rattle.making.specs.HandedOut.{HasKnotsOut, HandedKnots, HandedOut};
 use checks::slices::{KnotSlices, Output};
 
 // Flat knots, and their runs; how many distinct knots they are.
+#[tactic(auto, using(crate::proofs::HandedLaws::handed_copy))]
 pub fn hand_knots(flat: &[f64], out: &mut KnotSlices) -> usize
     requires { HasKnotsOut (length flat.now) out.old }
     ensures { HandedKnots flat.now out.old out.new result }
 {
-    out.flat[..flat.len()].copy_from_slice(flat);
+    out.flat[0..flat.len()].copy_from_slice(flat);
     knots::runs::compress_knots(flat, out.distinct, out.mults)
 }
 
 // Poles and flat knots; how many distinct knots they are.
+#[tactic(auto, using(crate::proofs::HandedLaws::handed_copy))]
 pub fn hand_out(poles: &[f64], flat: &[f64], out: &mut Output) -> usize
     requires { HasKnotsOut (length flat.now) out.old.knots × (length poles.now ≤ length out.old.poles.now) }
     ensures { HandedOut poles.now flat.now out.old out.new result }
 {
-    out.poles[..poles.len()].copy_from_slice(poles);
+    out.poles[0..poles.len()].copy_from_slice(poles);
     hand_knots(flat, &mut out.knots)
 }

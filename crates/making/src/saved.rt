@@ -37,24 +37,26 @@ impl<'a> SavedFit<'a> {
     }
 
     // The fit that stands in the regions, so many places of poles, put by.
+    #[tactic(auto, using(crate::proofs::SavedLaws::copied))]
     pub fn save(&mut self, at: &Regions, places: usize)
         requires flat { (at.now.knots.count ≤ length self.old.flat.now) × (at.now.knots.count ≤ length at.now.knots.places.now) }
         requires poles { (places ≤ length self.old.poles.now) × (places ≤ length at.now.fit.poles.now) }
         ensures { Saved self.old self.new at.now.knots.count places at.now }
     {
         let l = at.knots.count;
-        self.flat[..l].copy_from_slice(&at.knots.places[..l]);
-        self.poles[..places].copy_from_slice(&at.fit.poles[..places]);
+        self.flat[0..l].copy_from_slice(&at.knots.places[..l]);
+        self.poles[0..places].copy_from_slice(&at.fit.poles[..places]);
     }
 
     // The fit of l flat knots that was put by, in its regions again.
+    #[tactic(auto, using(crate::proofs::SavedLaws::copied))]
     pub fn restore(&self, at: &mut Regions, l: usize, places: usize)
         requires flat { (l ≤ length self.now.flat.now) × (l ≤ length at.old.knots.places.now) }
         requires poles { (places ≤ length self.now.poles.now) × (places ≤ length at.old.fit.poles.now) }
         ensures { Restored self.now l places at.old at.new }
     {
         at.knots.count = l;
-        at.knots.places[..l].copy_from_slice(&self.flat[..l]);
-        at.fit.poles[..places].copy_from_slice(&self.poles[..places]);
+        at.knots.places[0..l].copy_from_slice(&self.flat[..l]);
+        at.fit.poles[0..places].copy_from_slice(&self.poles[..places]);
     }
 }
