@@ -1,5 +1,7 @@
 -- What the steps of a grid call ask and give.
 pub mod SurfaceLaws
-pub mod JobLaws
+pub mod RoomLaws
+pub mod FitLaws
+pub mod DirectionLaws
 pub mod GridRunLaws
 pub mod GridCallLaws

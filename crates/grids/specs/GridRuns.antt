@@ -3,10 +3,11 @@ use Rattle.std.specs.Prelude.{◌≡◌, List, ℕ, ◌+◌, ◌-◌, ◌*◌, �
 use Rattle.places.specs.Places.{laid}
 use Rattle.geometry.specs.Doubles.{at}
 use Rattle.bspline.specs.Refusals.{pass}
+use Rattle.knots.specs.OnLines.{on_lines}
 use Rattle.knots.specs.Knots.{distinct_knots}
 use Rattle.tables.specs.BasisTable.{basis_table}
 use Rattle.tables.specs.Layout.{table_of, HasTable}
-use Rattle.tables.specs.Directions.{transposed}
+use Rattle.tables.specs.Directions.{row_point, column_point, transposed}
 use Rattle.checks.specs.declared.Shape.{Shape}
 use Rattle.checks.specs.declared.SurfaceCall.{SurfaceCall}
 use Rattle.checks.specs.declared.given.Grid.{Grid}
@@ -19,6 +20,9 @@ use Rattle.fitting.specs.declared.room.Sizes.{Sizes}
 use Rattle.fitting.specs.Room.{places_of}
 use Rattle.fitting.specs.Flat.{flat_of}
 use Rattle.fitting.specs.declared.Job.{Job}
+use Rattle.fitting.specs.declared.Kind.{Kind}
+use Rattle.fitting.specs.declared.Kind.TheVariants.{Ladder, Rows, Columns}
+use Rattle.fitting.specs.declared.Surface.{Surface}
 use Rattle.fitting.specs.declared.room.Regions.{Regions}
 use Rattle.fitting.specs.Jobs.{HasRegions, candidate_in, poles_in}
 use Rattle.fitting.specs.Marks.{unmarked, fit_of}
@@ -83,14 +87,39 @@ pub record TableStands (j : Job) (g g' : Regions) : Type 0 where
   pub count : g'.knots.count ≡ g.knots.count
   pub regions : HasRegions j g'
 
--- a fit of a grid's rows, with the table of its knots
-pub record OverRows (call : SurfaceCall) (g : Grid) (rows : StandingFit) (u : ℕ) : Type 0 where
-  pub params : HasParams call g u (length rows.job.params.now)
-  pub degree : rows.job.degree ≡ g.shape.v
-  pub lines : rows.job.lines.lines ≡ g.shape.rows
+-- A job that is a grid's rows, along v.
+pub record RowsJob (g : Grid) (v_params : List Float) (j : Job) : Type 0 where
+  pub degree : j.degree ≡ g.shape.v
+  pub factor : j.factor ≡ g.metric.factor
+  pub params : j.params.now ≡ v_params
+  pub list : j.lines.points.now ≡ g.points.now
+  pub points : on_lines j.lines ≡ row_point g.points.now g.shape.cols
+  pub lines : j.lines.lines ≡ g.shape.rows
+  pub kind : j.kind ≡ Rows
+
+-- a fit of them, with the table of its knots
+pub record OverRows (g : Grid) (rows : StandingFit) : Type 0 where
+  pub shaped : GridShaped (length g.points.now) g.shape
+  pub job : RowsJob g rows.job.params.now rows.job
+  pub params : length rows.job.params.now ≡ g.shape.cols
   pub table : table_of rows.at.now.fit.table ≡ basis_table (flat_of rows.at.now.knots) g.shape.v rows.job.params.now
   pub poles : rows.at.now.fit.table.poles ≡ count_of rows
   pub has : HasTable rows.at.now.fit.table
+
+-- what holds of the surface that columns are measured against
+abbrev pub OnSurface : Kind → (Surface → Type 0) → Type 0
+OnSurface Ladder P = ⊥
+OnSurface Rows P = ⊥
+OnSurface (Columns s) P = P s
+
+-- And one that is the columns of its poles, along u.
+pub record ColumnsJob (g : Grid) (rows : StandingFit) (u_params : List Float) (j : Job) : Type 0 where
+  pub degree : j.degree ≡ g.shape.u
+  pub factor : j.factor ≡ g.metric.factor
+  pub params : j.params.now ≡ u_params
+  pub points : on_lines j.lines ≡ column_point (poles_in rows.job rows.at.now) (count_of rows)
+  pub lines : j.lines.lines ≡ count_of rows
+  pub kind : OnSurface j.kind (λ s. (s.points.now ≡ g.points.now) × (s.across.now ≡ rows.at.now.fit.table))
 
 -- the columns' fit over it
 abbrev pub columns_over : SurfaceCall → Grid → StandingFit → List Float → GridResult
@@ -102,6 +131,7 @@ columns_over call g rows u_params =
 -- a direction's knots, with its mark and counts
 pub record HandsDirection (x : StandingFit) (k k' : KnotSlices) (r : Fit) : Type 0 where
   pub answer : r ≡ fit_of x.job.degree (stood x)
+  pub poles : r.poles ≡ count_of x
   pub knots : HandedKnots (flat_of x.at.now.knots) k k' (distinct_knots (flat_of x.at.now.knots))
 
 -- both fits stand, the columns' over the rows', with room for what is handed out

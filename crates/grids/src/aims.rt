@@ -5,6 +5,7 @@ ghost use Rattle.grids.specs.Grids.{row_aim, column_aim};
 use checks::{Aim, SurfaceCall};
 
 // What the rows are fitted to along v.
+#[tactic(auto, unfolding(crate::specs::Grids::row_aim))]
 pub fn row_aim(call: SurfaceCall) -> Aim
     ensures { result ≡ row_aim call }
 {
@@ -15,6 +16,7 @@ pub fn row_aim(call: SurfaceCall) -> Aim
 }
 
 // What the columns are fitted to along u.
+#[tactic(auto, unfolding(crate::specs::Grids::column_aim))]
 pub fn column_aim(call: SurfaceCall) -> Aim
     ensures { result ≡ column_aim call }
 {

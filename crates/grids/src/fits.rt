@@ -1,11 +1,11 @@
 // A grid that passed its checks: both directions' parameters, the rows' fit, and the columns' fit over it.
-ghost use Rattle.std.specs.Prelude.{◌≡◌, ◌≤◌, [], length};
+ghost use Rattle.std.specs.Prelude.{◌≡◌, ◌≤◌, ◌<◌, [], length};
 ghost use Rattle.tables.specs.Directions.{row_point, column_point};
 ghost use Rattle.knots.specs.OnLines.{on_lines};
 ghost use Rattle.checks.specs.GridChecks.{GridShaped, GridRoomy, grid_room_of};
 ghost use Rattle.checks.specs.Slices.{grid_in, grid_lent_with, SameGridOutput};
 ghost use Rattle.grids.specs.Grids.{fit_grid_by, grid_fit, HandsOutGrid};
-ghost use Rattle.grids.specs.GridRuns.{rows_sizes, columns_sizes, columns_over, OverRows, HasParams, HasGridOutput, ColumnsRoom, RowsRoom, TableStands};
+ghost use Rattle.grids.specs.GridRuns.{rows_sizes, columns_sizes, columns_over, RowsJob, ColumnsJob, OverRows, HasParams, HasGridOutput, ColumnsRoom, RowsRoom, TableStands};
 ghost use Rattle.fitting.specs.Jobs.{HasRegions, HasKnots};
 
 use crate::GridFit;
@@ -53,6 +53,21 @@ fn columns_of(grid: Grid) -> Lines
     }
 }
 
+// The rows, to be fitted along v.
+fn rows_job<'a>(grid: Grid<'a>, v_params: &'a [f64]) -> Job<'a, 'a, 'a, 'a>
+    requires shaped { GridShaped (length grid.points.now) grid.shape }
+    requires params { (length v_params.now ≡ grid.shape.cols) × (grid.shape.v < grid.shape.cols) }
+    ensures { RowsJob grid.entry v_params.now result }
+{
+    Job {
+        degree: grid.shape.v,
+        factor: grid.metric.factor,
+        params: v_params,
+        lines: rows_of(grid),
+        kind: Kind::Rows,
+    }
+}
+
 // The sizes of the rows' regions, and of the columns' with so many columns of row poles.
 fn rows_sizes(shape: Shape) -> Sizes
     ensures { result ≡ rows_sizes shape }
@@ -85,12 +100,15 @@ fn fill_table(job: Job, at: &mut Regions)
     at.fit.fill(&at.knots, job.params);
 }
 
-// The columns' fit over the rows' fit, which stands with its table.
-fn fit_columns(grid: Grid, call: SurfaceCall, rows: StandingFit, u_params: &[f64], out: &mut GridOutput, work: &mut [f64], index: &mut [usize]) -> Result<GridFit, Refusal>
-    requires over { OverRows call grid rows (length u_params.now) }
-    requires room { HasGridOutput grid.shape out.old × ColumnsRoom grid.shape (length work.old) (length index.old) }
-    ensures hands { HandsOutGrid grid.entry.shape (columns_over call grid.entry rows.entry u_params.now) (grid_lent_with out.old [] []) (grid_lent_with out.new [] []) result }
-    ensures same { SameGridOutput out.old out.new }
+// The columns of the rows' poles, to be fitted along u over the rows' fit, which stands with its table.
+fn columns_job<'a, 'b>(
+    grid: Grid<'a>,
+    rows: StandingFit<'a, 'a, 'a, 'a, 'a, 'b>,
+    u_params: &'a [f64],
+) -> Job<'a, 'a, 'a, 'b>
+    requires over { OverRows grid rows }
+    requires params { (length u_params.now ≡ grid.shape.rows) × (grid.shape.u < grid.shape.rows) }
+    ensures { ColumnsJob grid.entry rows.entry u_params.now result }
 {
     let shape = grid.shape;
     let below = rows.at;
@@ -106,14 +124,33 @@ fn fit_columns(grid: Grid, call: SurfaceCall, rows: StandingFit, u_params: &[f64
         points: grid.points,
         across: &below.fit.table,
     };
-    let job = Job {
+    Job {
         degree: shape.u,
-        factor: grid.metric.factor,
+        factor: rows.job.factor,
         params: u_params,
         lines,
         kind: Kind::Columns(surface),
-    };
-    let sizes = columns_sizes(shape, columns);
+    }
+}
+
+// The columns' fit.
+fn fit_columns(
+    grid: Grid,
+    call: SurfaceCall,
+    rows: StandingFit,
+    u_params: &[f64],
+    out: &mut GridOutput,
+    work: &mut [f64],
+    index: &mut [usize],
+) -> Result<GridFit, Refusal>
+    requires params { HasParams call grid (length u_params.now) (length rows.job.params.now) }
+    requires over { OverRows grid rows }
+    requires room { HasGridOutput grid.shape out.old × ColumnsRoom grid.shape (length work.old) (length index.old) }
+    ensures hands { HandsOutGrid grid.entry.shape (columns_over call grid.entry rows.entry u_params.now) (grid_lent_with out.old [] []) (grid_lent_with out.new [] []) result }
+    ensures same { SameGridOutput out.old out.new }
+{
+    let job = columns_job(grid, rows, u_params);
+    let sizes = columns_sizes(grid.shape, job.lines.lines);
     let (near, work) = work.split_at_mut(sizes.places());
     let mut at = Regions::new(sizes, near, index);
     let mut saved = SavedFit::new(sizes, work);
@@ -127,19 +164,21 @@ fn fit_columns(grid: Grid, call: SurfaceCall, rows: StandingFit, u_params: &[f64
 }
 
 // The rows' fit, and the columns' over it.
-fn fit_rows(grid: Grid, call: SurfaceCall, u_params: &[f64], v_params: &[f64], out: &mut GridOutput, work: &mut [f64], index: &mut [usize]) -> Result<GridFit, Refusal>
+fn fit_rows(
+    grid: Grid,
+    call: SurfaceCall,
+    u_params: &[f64],
+    v_params: &[f64],
+    out: &mut GridOutput,
+    work: &mut [f64],
+    index: &mut [usize],
+) -> Result<GridFit, Refusal>
     requires params { HasParams call grid (length u_params.now) (length v_params.now) }
     requires room { HasGridOutput grid.shape out.old × RowsRoom grid.shape (length work.old) (length index.old) }
     ensures hands { HandsOutGrid grid.entry.shape (fit_grid_by call (grid_in grid.entry) u_params.now v_params.now) (grid_lent_with out.old [] []) (grid_lent_with out.new [] []) result }
     ensures same { SameGridOutput out.old out.new }
 {
-    let job = Job {
-        degree: grid.shape.v,
-        factor: grid.metric.factor,
-        params: v_params,
-        lines: rows_of(grid),
-        kind: Kind::Rows,
-    };
+    let job = rows_job(grid, v_params);
     let sizes = rows_sizes(grid.shape);
     let (near, work) = work.split_at_mut(sizes.places());
     let (put_by, work) = work.split_at_mut(saved_places(sizes));
@@ -157,7 +196,13 @@ fn fit_rows(grid: Grid, call: SurfaceCall, u_params: &[f64], v_params: &[f64], o
 }
 
 // The call on a grid that passed the checks up to 10: 5, then 3 and 4, then the fits.
-pub fn fit_passed(grid: Grid, call: SurfaceCall, out: &mut GridOutput, work: &mut [f64], index: &mut [usize]) -> Result<GridFit, Refusal>
+pub fn fit_passed(
+    grid: Grid,
+    call: SurfaceCall,
+    out: &mut GridOutput,
+    work: &mut [f64],
+    index: &mut [usize],
+) -> Result<GridFit, Refusal>
     requires shaped { GridShaped (length grid.points.now) grid.shape }
     requires roomy { GridRoomy grid.shape (grid_room_of (grid_lent_with out.old work.old index.old)) }
     ensures hands { HandsOutGrid grid.entry.shape (grid_fit call (grid_in grid.entry)) (grid_lent_with out.old [] []) (grid_lent_with out.new [] []) result }

@@ -13,6 +13,7 @@ use fitting::Fit;
 use making::StandingFit;
 
 // Pole k of each of the columns, whose `count` poles each stand column after column.
+#[tactic(auto, using(crate::proofs::SurfaceLaws::points))]
 fn surface_row(from: &[f64], columns: usize, count: usize, k: usize, row: &mut [f64])
     requires { (columns ≤ 64) × (count ≤ 64) × (k < count) × (length from.now ≡ 3 * (columns * count)) × (length row.old ≡ 3 * columns) }
     ensures { row.new ≡ points_of columns (λ l. point_at from.now (l * count + k)) }
@@ -24,6 +25,7 @@ fn surface_row(from: &[f64], columns: usize, count: usize, k: usize, row: &mut [
 }
 
 // All of them.
+#[tactic(auto, using(crate::proofs::SurfaceLaws::rows))]
 pub fn surface_poles(from: &[f64], columns: usize, count: usize, poles: &mut [f64])
     requires { (columns ≤ 64) × (count ≤ 64) × (length from.now ≡ 3 * (columns * count)) × (3 * (columns * count) ≤ length poles.old) }
     ensures { poles.new ≡ laid 0 (3 * (columns * count)) (at (transposed columns count from.now)) poles.old }

@@ -1,88 +1,45 @@
--- The rows' poles and table stand before the columns' regions: so the columns are fitted over the rows' fit, and both stand in the work at the end. Assumes nothing.
-use mathlib.Core.Path.{◌≡◌, sym, ap, subst}
-use Prim.Native.Nat.{◌+◌}
-use native.Mathlib.Omega.{arith}
-use lib.ListN.{length}
-use Rattle.tables.specs.Layout.{FillsTable}
-use Rattle.fitting.specs.declared.Job.{Job}
-use Rattle.grids.proofs.GridRunLaws.{grid-refused}
-use Rattle.grids.proofs.GridCallLaws.{n-few, filling, columns_ready, both_ready, columns_fail, columns_hand}
-use Rattle.std.proofs.Common.{rules, Ok, Err}
+-- The columns are fitted over the rows' fit, which stays as it is. Assumes nothing.
+use Rattle.std.proofs.Common.{rules, ◌≡◌, ◌-◌, ◌≤◌, ◌∙◌, refl, arith, length, Ok, Err}
+use Rattle.fitting.specs.declared.room.Sizes.{Sizes}
+use Rattle.fitting.specs.Room.{places_of, HasSizes}
+use Rattle.grids.specs.GridRuns.{columns_sizes}
+use Rattle.grids.proofs.RoomLaws.{u_under, columns_asked, columns_within}
+use Rattle.grids.proofs.GridRunLaws.{refused, columns_fail, columns_stand, hands_grid}
 use Rattle.grids.proofs.fits.fit_columns.Goals as goal
 
-pub overflow_add-flat : goal.overflow_add-flat
-overflow_add-flat c =
-    let a = c.args in
-    let z = filling a.rows.factor a.call a.points.now a.work.now a.index.now a.shape c.requires.0 a.x c.requires.2 in
-    omega (arith, ap (λ (j : Job). j.flat) c.requires.1, z.knots_before, z.values_in, c.well_formed)
+pub columns_job-job-requires-clause-params : goal.columns_job-job-requires-clause-params
+columns_job-job-requires-clause-params c = (c.requires.params.for_u, u_under c.requires.params)
 
-pub fill_table-requires : goal.fill_table-requires
-fill_table-requires c =
-    let a = c.args in
-    subst (λ (j : Job). FillsTable j.table j.flat (j.flat + a.x.flat) j.params a.work.now a.index.now) (sym c.requires.1) (filling a.rows.factor a.call a.points.now a.work.now a.index.now a.shape c.requires.0 a.x c.requires.2)
+pub split_at_mut-near-requires : goal.split_at_mut-near-requires
+split_at_mut-near-requires c =
+    let n : c.columns_job-job.result.lines.lines ≤ c.args.grid.shape.cols = omega (arith, c.columns_job-job.ensures.lines, c.args.rows.stands.few.most, c.requires.over.params) in
+    let room = columns_within c.args.grid.shape c.columns_job-job.result.lines.lines n c.requires.room.1 in
+    rw (c.places.ensures, c.columns_sizes-sizes.ensures) (omega (arith, room))
 
-pub overflow_sub-x : goal.overflow_sub-x
-overflow_sub-x c = omega (arith, c.requires.2.few.least)
-
-pub overflow_sub-x-2 : goal.overflow_sub-x-2
-overflow_sub-x-2 c = omega (arith, c.requires.2.few.least)
-
-pub columns_job-columns-requires : goal.columns_job-columns-requires
-columns_job-columns-requires c =
-    let a = c.args in
-    let p = c.requires.0.shaped in
-    (c.requires.1, p.rows_most, p.cols_most, p.u_high, p.v_high, n-few a.rows.factor a.call a.points.now a.work.now a.index.now a.shape c.requires.0 a.x c.requires.2)
-
-pub overflow_add-saved : goal.overflow_add-saved
-overflow_add-saved c =
-    let a = c.args in
-    let f = c.fill_table in
-    let e = rw c.requires.1 at f.ensures.index_after in
-    let g = rw c.requires.1 at f.ensures.work_after in
-    let long : length f.new.index ≡ length a.index.now = search rules in
-    let r = columns_ready a.rows.factor a.call a.points.now a.work.now a.index.now a.shape c.requires.0 a.x c.requires.2 f.new.work f.new.index e g long in
-    omega (arith, ap (λ (j : Job). j.fresh) c.columns_job-columns.ensures, r.1.room, c.well_formed)
+pub new-saved-requires : goal.new-saved-requires
+new-saved-requires c =
+    let n : c.columns_job-job.result.lines.lines ≤ c.args.grid.shape.cols = omega (arith, c.columns_job-job.ensures.lines, c.args.rows.stands.few.most, c.requires.over.params) in
+    let room = columns_within c.args.grid.shape c.columns_job-job.result.lines.lines n c.requires.room.1 in
+    let z : c.places.result ≡ places_of (columns_sizes c.args.grid.shape c.columns_job-job.result.lines.lines) = rw c.columns_sizes-sizes.ensures at c.places.ensures in
+    let f : c.places.result ≤ length c.args.work.now = rw z (omega (arith, room)) in
+    let long : length c.split_at_mut-near.result.1.now ≡ length c.args.work.now - c.places.result = search rules in
+    (search rules, rw c.columns_sizes-sizes.ensures (omega (arith, room, z, long, f)))
 
 pub make_direction-requires : goal.make_direction-requires
 make_direction-requires c =
-    let a = c.args in
-    let f = c.fill_table in
-    let e = rw c.requires.1 at f.ensures.index_after in
-    let g = rw c.requires.1 at f.ensures.work_after in
-    let long : length f.new.index ≡ length a.index.now = search rules in
-    rw (c.columns_job-columns.ensures, c.column_aim-aim.ensures) (columns_ready a.rows.factor a.call a.points.now a.work.now a.index.now a.shape c.requires.0 a.x c.requires.2 f.new.work f.new.index e g long)
+    columns_asked c.requires.params c.new-at.ensures c.new-saved.ensures.flat c.new-saved.ensures.poles c.requires.over c.columns_job-job.ensures refl c.columns_sizes-sizes.ensures c.column_aim.ensures
 
-pub hand_both-requires : goal.hand_both-requires
-hand_both-requires c =
-    let a = c.args in
-    let f = c.fill_table in
-    let e = rw c.requires.1 at f.ensures.index_after in
-    let g = rw c.requires.1 at f.ensures.work_after in
-    let long : length f.new.index ≡ length a.index.now = search rules in
-    let m = rw (c.columns_job-columns.ensures, c.column_aim-aim.ensures) at c.make_direction.ensures in
-    let y : c.make_direction.result ≡ Ok c.in_ok-y.y = search rules in
-    rw (c.requires.1, c.columns_job-columns.ensures) (both_ready a.rows.factor a.call a.points.now a.work.now a.index.now a.shape c.requires.0 a.x c.requires.2 f.new.work f.new.index e g long m c.in_ok-y.y y)
+pub returns-in_err-standing-clause-hands : goal.returns-in_err-standing-clause-hands
+returns-in_err-standing-clause-hands c =
+    let m : c.make_direction.result ≡ Err c.in_err-standing.field-0.0 = search rules in
+    let r : c.from_residual.result ≡ Err c.in_err-standing.field-0.0 = search rules in
+    rw r (refused (columns_fail c.args.call c.requires.over c.columns_job-job.ensures (rw c.column_aim.ensures at c.make_direction.ensures) _ m))
 
-pub returns-in_err-y : goal.returns-in_err-y
-returns-in_err-y c =
-    let a = c.args in
-    let f = c.fill_table in
-    let e = rw c.requires.1 at f.ensures.index_after in
-    let g = rw c.requires.1 at f.ensures.work_after in
-    let long : length f.new.index ≡ length a.index.now = search rules in
-    let m = rw (c.columns_job-columns.ensures, c.column_aim-aim.ensures) at c.make_direction.ensures in
-    let y : c.make_direction.result ≡ Err c.in_err-y.field-0.0 = search rules in
-    let r : c.from_residual.result ≡ Err c.in_err-y.field-0.0 = search rules in
-    rw r (grid-refused a.shape _ c.in_err-y.field-0.0 (columns_fail a.rows.factor a.call a.points.now a.work.now a.index.now a.shape c.requires.0 a.x c.requires.2 f.new.work f.new.index e g long m c.in_err-y.field-0.0 y) _ _ _ _)
+pub invariant_of-made : goal.invariant_of-made
+invariant_of-made c = record { regions = c.make_direction.ensures.regions; stands = c.make_direction.ensures.standing c.in_ok-standing.standing (search rules) }
 
-pub returns : goal.returns
-returns c =
-    let a = c.args in
-    let f = c.fill_table in
-    let e = rw c.requires.1 at f.ensures.index_after in
-    let g = rw c.requires.1 at f.ensures.work_after in
-    let long : length f.new.index ≡ length a.index.now = search rules in
-    let m = rw (c.columns_job-columns.ensures, c.column_aim-aim.ensures) at c.make_direction.ensures in
-    let y : c.make_direction.result ≡ Ok c.in_ok-y.y = search rules in
-    let o = rw (c.requires.1, c.columns_job-columns.ensures) at c.hand_both.ensures in
-    columns_hand a.rows.factor a.call a.points.now a.work.now a.index.now a.shape c.requires.0 a.x c.requires.2 f.new.work f.new.index e g long m c.in_ok-y.y y o
+pub returns-clause-hands : goal.returns-clause-hands
+returns-clause-hands c =
+    let m : c.make_direction.result ≡ Ok c.in_ok-standing.standing = search rules in
+    hands_grid c.args.grid.shape c.args.rows _ c.requires.over.job.degree c.columns_job-job.ensures.degree
+    (columns_stand c.args.call c.requires.over c.columns_job-job.ensures (rw c.column_aim.ensures at c.make_direction.ensures) _ m) c.hand_both.ensures
