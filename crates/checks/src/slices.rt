@@ -1,84 +1,66 @@
-// What is lent to a call: slices for what it hands out, and slices to work in.
+// What is lent to a call for what it hands out: a fit's poles, its flat knots, and its distinct knots with their multiplicities.
 use crate::{GridRoom, Room};
 
-// For the knots of a direction: the flat knots, and the distinct ones with their multiplicities.
-#[derive(Drop)]
-pub struct KnotSlices<'a> {
-    pub flat: &'a mut [f64],
-    pub distinct: &'a mut [f64],
-    pub mults: &'a mut [u32],
-}
-
-// For what a ladder call hands out.
+// For a ladder call.
 #[derive(Drop)]
 pub struct Output<'a> {
     pub poles: &'a mut [f64],
-    pub knots: KnotSlices<'a>,
+    pub flat: &'a mut [f64],
+    pub knots: &'a mut [f64],
+    pub mults: &'a mut [u32],
 }
 
-// For what a grid call hands out.
+// For a grid call: the knots along u and along v.
 #[derive(Drop)]
 pub struct GridOutput<'a> {
     pub poles: &'a mut [f64],
-    pub u: KnotSlices<'a>,
-    pub v: KnotSlices<'a>,
+    pub uflat: &'a mut [f64],
+    pub uknots: &'a mut [f64],
+    pub umults: &'a mut [u32],
+    pub vflat: &'a mut [f64],
+    pub vknots: &'a mut [f64],
+    pub vmults: &'a mut [u32],
 }
 
-// All that a ladder call is lent.
-#[derive(Drop)]
-pub struct Slices<'a> {
-    pub out: Output<'a>,
-    pub work: &'a mut [f64],
-    pub index: &'a mut [usize],
-}
-
-// All that a grid call is lent.
-#[derive(Drop)]
-pub struct GridSlices<'a> {
-    pub out: GridOutput<'a>,
-    pub work: &'a mut [f64],
-    pub index: &'a mut [usize],
-}
-
-impl Slices<'_> {
-    ghost use Rattle.std.specs.Prelude.{◌≡◌};
+impl Output<'_> {
+    ghost use Rattle.std.specs.Prelude.{◌≡◌, length};
     ghost use Rattle.checks.specs.LadderChecks.{room_of};
-    ghost use Rattle.checks.specs.Slices.{lent_in};
+    ghost use Rattle.checks.specs.Slices.{lent_with};
 
-    // Their lengths.
-    pub fn room(&self) -> Room
-        ensures { result ≡ room_of (lent_in self.now) }
+    // Their lengths, with those of a work and an index.
+    pub fn room(&self, work: &[f64], index: &[usize]) -> Room
+        ensures { result ≡ room_of (lent_with self.now work.now index.now) }
     {
         Room {
-            poles: self.out.poles.len(),
-            flat: self.out.knots.flat.len(),
-            knots: self.out.knots.distinct.len(),
-            mults: self.out.knots.mults.len(),
-            work: self.work.len(),
-            index: self.index.len(),
+            poles: self.poles.len(),
+            flat: self.flat.len(),
+            knots: self.knots.len(),
+            mults: self.mults.len(),
+            work: work.len(),
+            index: index.len(),
         }
     }
 }
 
-impl GridSlices<'_> {
+impl GridOutput<'_> {
     ghost use Rattle.std.specs.Prelude.{◌≡◌};
     ghost use Rattle.checks.specs.GridChecks.{grid_room_of};
-    ghost use Rattle.checks.specs.Slices.{grid_lent_in};
+    ghost use Rattle.checks.specs.Slices.{grid_lent_with};
 
-    // Their lengths.
-    pub fn room(&self) -> GridRoom
-        ensures { result ≡ grid_room_of (grid_lent_in self.now) }
+    // Their lengths, with those of a work and an index.
+    pub fn room(&self, work: &[f64], index: &[usize]) -> GridRoom
+        ensures { result ≡ grid_room_of (grid_lent_with self.now work.now index.now) }
     {
         GridRoom {
-            poles: self.out.poles.len(),
-            uflat: self.out.u.flat.len(),
-            uknots: self.out.u.distinct.len(),
-            umults: self.out.u.mults.len(),
-            vflat: self.out.v.flat.len(),
-            vknots: self.out.v.distinct.len(),
-            vmults: self.out.v.mults.len(),
-            work: self.work.len(),
-            index: self.index.len(),
+            poles: self.poles.len(),
+            uflat: self.uflat.len(),
+            uknots: self.uknots.len(),
+            umults: self.umults.len(),
+            vflat: self.vflat.len(),
+            vknots: self.vknots.len(),
+            vmults: self.vmults.len(),
+            work: work.len(),
+            index: index.len(),
         }
     }
 }

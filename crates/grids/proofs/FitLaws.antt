@@ -1,23 +1,22 @@
 -- The fits that stand in their regions: their tables, and what is handed back of them. Assumes nothing.
 use mathlib.Core.Path.{◌≡◌, refl, sym, ◌∙◌, ap}
 use mathlib.Core.List.{List}
-use Prim.Native.Nat.{ℕ, ◌+◌, ◌-◌, ◌*◌, ◌≤◌}
+use Prim.Native.Nat.{ℕ}
 use native.Mathlib.Omega.{arith}
-use lib.ListN.{length, take}
+use lib.ListN.{length}
 use lib.Seq.{length-take-le}
 use lib.Ieee.{Float}
 use Rattle.knots.specs.Knots.{distinct_knots}
 use Rattle.tables.specs.BasisTable.{BasisTable, basis_table}
 use Rattle.tables.specs.Deviations.{unreadable}
-use Rattle.tables.specs.Layout.{table_of, Filled}
+use Rattle.tables.specs.Layout.{Filled}
 use Rattle.tables.proofs.TableLaws.{length_rows}
-use Rattle.checks.specs.declared.slices.KnotSlices.{KnotSlices}
 use Rattle.fitting.specs.declared.Job.{Job}
 use Rattle.fitting.specs.declared.room.Fitted.{Fitted}
 use Rattle.fitting.specs.declared.room.Regions.{Regions}
 use Rattle.fitting.specs.Flat.{flat_of}
 use Rattle.fitting.specs.Within.{Candidate, candidate, pole_count}
-use Rattle.fitting.specs.Marks.{unmarked, mark_of, fit_of}
+use Rattle.fitting.specs.Marks.{unmarked, fit_of}
 use Rattle.fitting.specs.Jobs.{HasRegions, HasKnots, candidate_in, poles_in}
 use Rattle.making.specs.declared.StandingFit.{StandingFit}
 use Rattle.making.specs.HandedOut.{HandedKnots}
@@ -94,10 +93,10 @@ module _ (x : StandingFit) where
       fit_same _ _ _ _ _ _ _ _ (sym (mark_as x.standing.mark (count_of x) (candidate_in x.job x.at.now) x.stands.most)) stood-count (ap distinct_knots stood-flat)
       (ap (λ (f : Candidate). unreadable f.distances) standing-is ∙ sym x.stands.unread)
 
-  pub hands_direction : {k k' : KnotSlices} {r : ℕ} → HandedKnots (flat_of x.at.now.knots) k k' r
-      → HandsDirection x k k' (record { mark = x.standing.mark; poles = count_of x; knots = r; unreadable = x.standing.unreadable })
+  pub hands_direction : {flat flat' knots knots' : List Float} {mults mults' : List ℕ} {r : ℕ} → HandedKnots (flat_of x.at.now.knots) flat flat' knots knots' mults mults' r
+      → HandsDirection x flat flat' knots knots' mults mults' (record { mark = x.standing.mark; poles = count_of x; knots = r; unreadable = x.standing.unreadable })
   hands_direction h = record {
     answer = rw h.runs.count (sym handed_back);
     poles = refl;
-    knots = record { for_flat = h.for_flat; runs = record { count = refl; values = h.runs.values; multiplicities = h.runs.multiplicities }; same = h.same };
+    handed = record { for_flat = h.for_flat; runs = record { count = refl; values = h.runs.values; multiplicities = h.runs.multiplicities }};
   }

@@ -7,7 +7,6 @@ use Rattle.std.specs.Prelude.{Err}
 use Rattle.bspline.specs.declared.Refusal.{Refusal}
 use Rattle.bspline.specs.declared.Refusal.TheVariants.{ConfusedPoints}
 use Rattle.bspline.specs.Refusals.{Verdict, pass}
-use Rattle.geometry.specs.declared.Point.{Point}
 use Rattle.knots.specs.declared.lines.Lines.{Lines}
 use Rattle.knots.specs.OnLines.{on_lines}
 use Rattle.knots.specs.Parameters.{shared_parameters}
@@ -16,7 +15,7 @@ use Rattle.checks.specs.declared.given.Grid.{Grid as Held}
 use Rattle.checks.specs.declared.SurfaceCall.{SurfaceCall}
 use Rattle.checks.specs.GridChecks.{Grid, counts_verdict}
 use Rattle.checks.specs.Slices.{grid_in}
-use Rattle.grids.specs.Grids.{GridResult, grid_refused, u_parameters, v_parameters, fit_grid_by, grid_checked, grid_fit_with, grid_fit}
+use Rattle.grids.specs.Grids.{grid_refused, u_parameters, v_parameters, fit_grid_by, grid_checked, grid_fit_with, grid_fit}
 
 -- ---- the parameters that the columns share, and the rows
 

@@ -1,15 +1,14 @@
 -- The rows' fit and the columns' over it, as they stand in their regions, are the definition's, and so is what is handed out of them. Assumes nothing.
 use mathlib.Core.Path.{◌≡◌, refl, sym, ◌∙◌, ap, subst}
 use mathlib.Core.List.{List}
-use Prim.Native.Nat.{ℕ, ◌-◌, ◌*◌}
+use Prim.Native.Nat.{ℕ, ◌-◌}
 use lib.ListN.{length}
 use lib.Ieee.{Float}
 use Rattle.std.specs.Prelude.{[], Ok, Err}
 use Rattle.places.specs.Places.{laid}
-use Rattle.geometry.specs.Doubles.{at, largest}
+use Rattle.geometry.specs.Doubles.{at}
 use Rattle.bspline.specs.declared.Refusal.{Refusal}
 use Rattle.knots.specs.Knots.{distinct_knots, knot_at, multiplicity_at}
-use Rattle.tables.specs.Deviations.{unreadable}
 use Rattle.tables.specs.Directions.{Direction, transposed}
 use Rattle.checks.specs.declared.Shape.{Shape}
 use Rattle.checks.specs.declared.SurfaceCall.{SurfaceCall}
@@ -20,15 +19,15 @@ use Rattle.checks.specs.Slices.{grid_in, grid_lent_with}
 use Rattle.fitting.specs.declared.Fit.{Fit}
 use Rattle.fitting.specs.declared.Job.{Job}
 use Rattle.fitting.specs.declared.room.Regions.{Regions}
-use Rattle.fitting.specs.Within.{Candidate, Marked, pole_count}
-use Rattle.fitting.specs.Marks.{unmarked, fit_of, largest_deviation}
-use Rattle.fitting.specs.Jobs.{HasRegions, HasKnots, direction_of, candidate_in, poles_in}
+use Rattle.fitting.specs.Within.{Marked}
+use Rattle.fitting.specs.Marks.{unmarked, fit_of}
+use Rattle.fitting.specs.Jobs.{direction_of, candidate_in, poles_in}
 use Rattle.making.specs.declared.Standing.{Standing}
 use Rattle.making.specs.declared.StandingFit.{StandingFit}
 use Rattle.making.specs.Results.{FitResult, fit_to}
 use Rattle.making.specs.Runs.{Made, made_in, marked_as, standing_in, StandsIn, Makes}
 use Rattle.grids.specs.declared.GridFit.{GridFit}
-use Rattle.grids.specs.Grids.{GridResult, grid_refused, grid_accepted, along_v, along_u, row_aim, column_aim, beside_rows, after_rows, fit_grid_by, grid_answer_of, surface_poles, grid_handed, HandsOutGrid, GridAnswer}
+use Rattle.grids.specs.Grids.{GridResult, grid_refused, grid_accepted, along_u, row_aim, column_aim, beside_rows, after_rows, fit_grid_by, grid_answer_of, surface_poles, grid_handed, HandsOutGrid, GridAnswer}
 use Rattle.grids.specs.GridRuns.{stood, count_of, columns_over, TableStands, RowsJob, OverRows, ColumnsJob, HandsBoth}
 use Rattle.grids.proofs.SurfaceLaws.{length-transposed}
 use Rattle.grids.proofs.FitLaws.{stood-flat, stood-poles, stood-count}
@@ -126,10 +125,10 @@ module _ (h : Shape) (rows columns : StandingFit) (v_degree : rows.job.degree �
             out.surface
             ∙ ap (λ (k : ℕ). laid 0 k (at s) o.poles.now) (sym (length-transposed (count_of rows) (count_of columns) (poles_in columns.job columns.at.now)))
             ∙ ap (λ (l : List Float). laid 0 (length l) (at l) o.poles.now) (sym surface_is);
-        u_flat = out.u.knots.for_flat ∙ ap (λ (l : List Float). laid 0 (length l) (at l) o.u.flat.now) (sym (stood-flat columns));
-        u_knots = out.u.knots.runs.values ∙ ap (λ (l : List Float). laid 0 (distinct_knots l) (knot_at l) o.u.distinct.now) (sym (stood-flat columns));
-        u_mults = out.u.knots.runs.multiplicities ∙ ap (λ (l : List Float). laid 0 (distinct_knots l) (multiplicity_at l) o.u.mults.now) (sym (stood-flat columns));
-        v_flat = out.v.knots.for_flat ∙ ap (λ (l : List Float). laid 0 (length l) (at l) o.v.flat.now) (sym (stood-flat rows));
-        v_knots = out.v.knots.runs.values ∙ ap (λ (l : List Float). laid 0 (distinct_knots l) (knot_at l) o.v.distinct.now) (sym (stood-flat rows));
-        v_mults = out.v.knots.runs.multiplicities ∙ ap (λ (l : List Float). laid 0 (distinct_knots l) (multiplicity_at l) o.v.mults.now) (sym (stood-flat rows));
+        u_flat = out.u.handed.for_flat ∙ ap (λ (l : List Float). laid 0 (length l) (at l) o.uflat.now) (sym (stood-flat columns));
+        u_knots = out.u.handed.runs.values ∙ ap (λ (l : List Float). laid 0 (distinct_knots l) (knot_at l) o.uknots.now) (sym (stood-flat columns));
+        u_mults = out.u.handed.runs.multiplicities ∙ ap (λ (l : List Float). laid 0 (distinct_knots l) (multiplicity_at l) o.umults.now) (sym (stood-flat columns));
+        v_flat = out.v.handed.for_flat ∙ ap (λ (l : List Float). laid 0 (length l) (at l) o.vflat.now) (sym (stood-flat rows));
+        v_knots = out.v.handed.runs.values ∙ ap (λ (l : List Float). laid 0 (distinct_knots l) (knot_at l) o.vknots.now) (sym (stood-flat rows));
+        v_mults = out.v.handed.runs.multiplicities ∙ ap (λ (l : List Float). laid 0 (distinct_knots l) (multiplicity_at l) o.vmults.now) (sym (stood-flat rows));
       })

@@ -1,7 +1,7 @@
 -- The room that both directions' fits have in the work and in the index, and what their aims ask. Assumes nothing.
 use mathlib.Core.Path.{◌≡◌, refl, sym, ◌∙◌, ap, subst}
 use mathlib.Core.List.{List}
-use Prim.Native.Nat.{ℕ, ◌+◌, ◌-◌, ◌*◌, ◌≤◌, ◌<◌, max}
+use Prim.Native.Nat.{ℕ, ◌+◌, ◌*◌, ◌≤◌, ◌<◌, max}
 use native.Mathlib.Omega.{arith}
 use native.Mathlib.Nat.{mul-le-mul, mul-le-mul_right}
 use lib.ListN.{length}
@@ -117,8 +117,8 @@ unfolding places_of
 room_after h o work index s r k = (
   record {
     poles = r.for_poles;
-    u = record { few = omega (arith, s.rows_most, s.u_high); for_flat = r.for_uflat; for_distinct = r.for_uknots; for_mults = r.for_umults };
-    v = record { few = omega (arith, s.cols_most, s.v_high); for_flat = r.for_vflat; for_distinct = r.for_vknots; for_mults = r.for_vmults };
+    u = record { few = omega (arith, s.rows_most, s.u_high); for_flat = r.for_uflat; for_knots = r.for_uknots; for_mults = r.for_umults };
+    v = record { few = omega (arith, s.cols_most, s.v_high); for_flat = r.for_vflat; for_knots = r.for_vknots; for_mults = r.for_vmults };
   },
   record { for_work = omega (arith, v-places h, u-places h, r.for_work, s.u_high, s.v_high, k); for_index = omega (arith, r.for_index) },
 )

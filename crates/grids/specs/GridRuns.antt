@@ -11,7 +11,6 @@ use Rattle.tables.specs.Directions.{row_point, column_point, transposed}
 use Rattle.checks.specs.declared.Shape.{Shape}
 use Rattle.checks.specs.declared.SurfaceCall.{SurfaceCall}
 use Rattle.checks.specs.declared.given.Grid.{Grid}
-use Rattle.checks.specs.declared.slices.KnotSlices.{KnotSlices}
 use Rattle.checks.specs.declared.slices.GridOutput.{GridOutput}
 use Rattle.checks.specs.GridChecks.{GridShaped, counts_verdict}
 use Rattle.checks.specs.Slices.{SameGridOutput}
@@ -57,8 +56,8 @@ pub record RowsRoom (h : Shape) (work index : ℕ) : Type 0 where
 -- room for what is handed out
 pub record HasGridOutput (h : Shape) (o : GridOutput) : Type 0 where
   pub poles : 3 * (h.rows * h.cols) ≤ length o.poles.now
-  pub u : HasKnotsOut (h.rows + h.u + 1) o.u
-  pub v : HasKnotsOut (h.cols + h.v + 1) o.v
+  pub u : HasKnotsOut (h.rows + h.u + 1) o.uflat.now o.uknots.now o.umults.now
+  pub v : HasKnotsOut (h.cols + h.v + 1) o.vflat.now o.vknots.now o.vmults.now
 
 -- ---- the two fits
 
@@ -129,10 +128,10 @@ columns_over call g rows u_params =
 -- ---- handing out
 
 -- a direction's knots, with its mark and counts
-pub record HandsDirection (x : StandingFit) (k k' : KnotSlices) (r : Fit) : Type 0 where
+pub record HandsDirection (x : StandingFit) (flat flat' knots knots' : List Float) (mults mults' : List ℕ) (r : Fit) : Type 0 where
   pub answer : r ≡ fit_of x.job.degree (stood x)
   pub poles : r.poles ≡ count_of x
-  pub knots : HandedKnots (flat_of x.at.now.knots) k k' (distinct_knots (flat_of x.at.now.knots))
+  pub handed : HandedKnots (flat_of x.at.now.knots) flat flat' knots knots' mults mults' (distinct_knots (flat_of x.at.now.knots))
 
 -- both fits stand, the columns' over the rows', with room for what is handed out
 pub record HasBoth (rows columns : StandingFit) (o : GridOutput) : Type 0 where
@@ -140,13 +139,13 @@ pub record HasBoth (rows columns : StandingFit) (o : GridOutput) : Type 0 where
   pub v_few : count_of rows ≤ 64
   pub u_few : count_of columns ≤ 64
   pub poles : 3 * (count_of rows * count_of columns) ≤ length o.poles.now
-  pub u : HasKnotsOut columns.at.now.knots.count o.u
-  pub v : HasKnotsOut rows.at.now.knots.count o.v
+  pub u : HasKnotsOut columns.at.now.knots.count o.uflat.now o.uknots.now o.umults.now
+  pub v : HasKnotsOut rows.at.now.knots.count o.vflat.now o.vknots.now o.vmults.now
 
 -- what is handed out of them
 pub record HandsBoth (rows columns : StandingFit) (o o' : GridOutput) (r : GridFit) : Type 0 where
-  pub u : HandsDirection columns o.u o'.u r.u
-  pub v : HandsDirection rows o.v o'.v r.v
+  pub u : HandsDirection columns o.uflat.now o'.uflat.now o.uknots.now o'.uknots.now o.umults.now o'.umults.now r.u
+  pub v : HandsDirection rows o.vflat.now o'.vflat.now o.vknots.now o'.vknots.now o.vmults.now o'.vmults.now r.v
   pub surface :
       o'.poles.now ≡ laid 0 (3 * (count_of rows * count_of columns))
       (at (transposed (count_of rows) (count_of columns) (poles_in columns.job columns.at.now))) o.poles.now

@@ -8,7 +8,7 @@ ghost use Rattle.making.specs.HandedOut.{HasKnotsOut};
 ghost use Rattle.grids.specs.GridRuns.{HasBoth, HandsBoth, HandsDirection};
 
 use crate::GridFit;
-use checks::slices::{GridOutput, KnotSlices};
+use checks::slices::GridOutput;
 use fitting::Fit;
 use making::StandingFit;
 
@@ -38,16 +38,16 @@ pub fn surface_poles(from: &[f64], columns: usize, count: usize, poles: &mut [f6
 }
 
 // The knots of a direction's fit, and its mark and counts.
-fn hand_direction(x: StandingFit, out: &mut KnotSlices) -> Fit
-    requires { HasKnotsOut x.at.now.knots.count out.old }
-    ensures { HandsDirection x.entry out.old out.new result }
+fn hand_direction(x: StandingFit, flat: &mut [f64], knots: &mut [f64], mults: &mut [u32]) -> Fit
+    requires { HasKnotsOut x.at.now.knots.count flat.old knots.old mults.old }
+    ensures { HandsDirection x.entry flat.old flat.new knots.old knots.new mults.old mults.new result }
 {
     let at = x.at;
     let l = at.knots.count;
     Fit {
         mark: x.standing.mark,
         poles: l - x.job.degree - 1,
-        knots: making::output::hand_knots(&at.knots.places[..l], out),
+        knots: making::output::hand_knots(&at.knots.places[..l], flat, knots, mults),
         unreadable: x.standing.unreadable,
     }
 }
@@ -57,8 +57,8 @@ pub fn hand_both(rows: StandingFit, columns: StandingFit, out: &mut GridOutput) 
     requires { HasBoth rows columns out.old }
     ensures { HandsBoth rows.entry columns.entry out.old out.new result }
 {
-    let u = hand_direction(columns, &mut out.u);
-    let v = hand_direction(rows, &mut out.v);
+    let u = hand_direction(columns, out.uflat, out.uknots, out.umults);
+    let v = hand_direction(rows, out.vflat, out.vknots, out.vmults);
     let at = columns.at;
     let places = 3 * (v.poles * u.poles);
     surface_poles(&at.fit.poles[..places], v.poles, u.poles, out.poles);

@@ -71,9 +71,9 @@ module _ (j : Job) (g : Regions) (a : Marked) (stands : candidate_in j g ≡ unm
   hands_out mk u marked unread {o} {o'} {count} out = record {
     answer = ap Ok (fit_same mk (mark_of a) (g.knots.count - j.degree - 1) (pole_count j.degree (unmarked a).flat) count (distinct_knots (unmarked a).flat) u (unreadable (unmarked a).distances) marked count_is (out.knots_out.runs.count ∙ ap distinct_knots knots_are) unread);
     poles = out.for_poles ∙ ap (λ (l : List Float). laid 0 (length l) (at l) o.poles.now) poles_are;
-    flat = out.knots_out.for_flat ∙ ap (λ (l : List Float). laid 0 (length l) (at l) o.knots.flat.now) knots_are;
-    knots = out.knots_out.runs.values ∙ ap (λ (l : List Float). laid 0 (distinct_knots l) (knot_at l) o.knots.distinct.now) knots_are;
-    mults = out.knots_out.runs.multiplicities ∙ ap (λ (l : List Float). laid 0 (distinct_knots l) (multiplicity_at l) o.knots.mults.now) knots_are;
+    flat = out.knots_out.for_flat ∙ ap (λ (l : List Float). laid 0 (length l) (at l) o.flat.now) knots_are;
+    knots = out.knots_out.runs.values ∙ ap (λ (l : List Float). laid 0 (distinct_knots l) (knot_at l) o.knots.now) knots_are;
+    mults = out.knots_out.runs.multiplicities ∙ ap (λ (l : List Float). laid 0 (distinct_knots l) (multiplicity_at l) o.mults.now) knots_are;
   }
 
 -- as many flat knots as are counted

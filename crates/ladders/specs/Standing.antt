@@ -16,7 +16,7 @@ use Rattle.ladders.specs.Ladders.{HandsOut}
 -- room for n poles of degree p and their knots
 pub record HasOutput (n p : ℕ) (o : Output) : Type 0 where
   pub poles : 3 * n ≤ length o.poles.now
-  pub knots : HasKnotsOut (n + p + 1) o.knots
+  pub knots : HasKnotsOut (n + p + 1) o.flat.now o.knots.now o.mults.now
 
 -- room to fit in: the regions of one line of n points
 pub record HasRoom (p n work index : ℕ) : Type 0 where

@@ -6,7 +6,7 @@ ghost use Rattle.bspline.specs.Refusals.{pass};
 ghost use Rattle.knots.specs.OnLines.{on_lines};
 ghost use Rattle.tables.specs.Directions.{ladder as ladder_direction, ladder_point};
 ghost use Rattle.checks.specs.LadderChecks.{Roomy, Shaped, room_of, count_verdict};
-ghost use Rattle.checks.specs.Slices.{lent_in, lent_with, SameOutput, SameSlices};
+ghost use Rattle.checks.specs.Slices.{lent_with, SameOutput};
 ghost use Rattle.fitting.specs.Jobs.{direction_of, sizes_of};
 ghost use Rattle.making.specs.Results.{fit_by};
 ghost use Rattle.ladders.specs.Ladders.{ladder_fit, HandsOut, LadderCall, Interpolates, Approximates, ApproximatesWithin, SearchesSpread};
@@ -16,7 +16,7 @@ use bspline::Refusal;
 use checks::Call;
 use checks::given::Ladder;
 use checks::ladder::check_ladder;
-use checks::slices::{Output, Slices};
+use checks::slices::Output;
 use fitting::room::{Regions, Sizes};
 use fitting::{Fit, Job, Kind};
 use knots::lines::Lines;
@@ -128,49 +128,50 @@ fn fit_passed(
 }
 
 // Any of the calls.
-pub fn fit_ladder(ladder: Ladder, call: Call, slices: &mut Slices) -> Result<Fit, Refusal>
-    ensures call { LadderCall call ladder.entry.points.now ladder.entry.degree ladder.entry.metric (lent_in slices.old) (lent_in slices.new) result }
-    ensures same { SameSlices slices.old slices.new }
+pub fn fit_ladder(ladder: Ladder, call: Call, out: &mut Output, work: &mut [f64], index: &mut [usize]) -> Result<Fit, Refusal>
+    ensures call { LadderCall call ladder.entry.points.now ladder.entry.degree ladder.entry.metric
+        (lent_with out.old work.old index.old) (lent_with out.new work.new index.new) result }
+    ensures same { SameOutput out.old out.new }
 {
-    check_ladder(ladder, call, slices.room())?;
-    let answer = fit_passed(ladder, call, &mut slices.out, slices.work, slices.index);
-    slices.work.fill(0.0);
-    slices.index.fill(0);
+    check_ladder(ladder, call, out.room(work, index))?;
+    let answer = fit_passed(ladder, call, out, work, index);
+    work.fill(0.0);
+    index.fill(0);
     answer
 }
 
 // `interpolate`: the curve through the points, with as many poles.
-pub fn interpolate(ladder: Ladder, slices: &mut Slices) -> Result<Fit, Refusal>
-    ensures call { Interpolates ladder.entry.points.now ladder.entry.degree ladder.entry.metric (lent_in slices.old) (lent_in slices.new) result }
-    ensures same { SameSlices slices.old slices.new }
+pub fn interpolate(ladder: Ladder, out: &mut Output, work: &mut [f64], index: &mut [usize]) -> Result<Fit, Refusal>
+    ensures call { Interpolates ladder.entry.points.now ladder.entry.degree ladder.entry.metric
+        (lent_with out.old work.old index.old) (lent_with out.new work.new index.new) result }
+    ensures same { SameOutput out.old out.new }
 {
-    fit_ladder(ladder, Call::Interpolate, slices)
+    fit_ladder(ladder, Call::Interpolate, out, work, index)
 }
 
 // `approximate`: least squares with a chosen pole count.
-pub fn approximate(ladder: Ladder, count: usize, slices: &mut Slices) -> Result<Fit, Refusal>
-    ensures call { Approximates ladder.entry.points.now ladder.entry.degree count ladder.entry.metric (lent_in slices.old) (lent_in slices.new) result }
-    ensures same { SameSlices slices.old slices.new }
+pub fn approximate(ladder: Ladder, count: usize, out: &mut Output, work: &mut [f64], index: &mut [usize]) -> Result<Fit, Refusal>
+    ensures call { Approximates ladder.entry.points.now ladder.entry.degree count ladder.entry.metric
+        (lent_with out.old work.old index.old) (lent_with out.new work.new index.new) result }
+    ensures same { SameOutput out.old out.new }
 {
-    fit_ladder(ladder, Call::Approximate(count), slices)
+    fit_ladder(ladder, Call::Approximate(count), out, work, index)
 }
 
 // `approximate_within`: refinement, else the spread search, else the curve through the points.
-pub fn approximate_within(
-    ladder: Ladder,
-    tolerance: f64,
-    slices: &mut Slices,
-) -> Result<Fit, Refusal>
-    ensures call { ApproximatesWithin ladder.entry.points.now ladder.entry.degree tolerance ladder.entry.metric (lent_in slices.old) (lent_in slices.new) result }
-    ensures same { SameSlices slices.old slices.new }
+pub fn approximate_within(ladder: Ladder, tolerance: f64, out: &mut Output, work: &mut [f64], index: &mut [usize]) -> Result<Fit, Refusal>
+    ensures call { ApproximatesWithin ladder.entry.points.now ladder.entry.degree tolerance ladder.entry.metric
+        (lent_with out.old work.old index.old) (lent_with out.new work.new index.new) result }
+    ensures same { SameOutput out.old out.new }
 {
-    fit_ladder(ladder, Call::ApproximateWithin(tolerance), slices)
+    fit_ladder(ladder, Call::ApproximateWithin(tolerance), out, work, index)
 }
 
 // The spread search alone, else the curve through the points.
-pub fn search_spread(ladder: Ladder, tolerance: f64, slices: &mut Slices) -> Result<Fit, Refusal>
-    ensures call { SearchesSpread ladder.entry.points.now ladder.entry.degree tolerance ladder.entry.metric (lent_in slices.old) (lent_in slices.new) result }
-    ensures same { SameSlices slices.old slices.new }
+pub fn search_spread(ladder: Ladder, tolerance: f64, out: &mut Output, work: &mut [f64], index: &mut [usize]) -> Result<Fit, Refusal>
+    ensures call { SearchesSpread ladder.entry.points.now ladder.entry.degree tolerance ladder.entry.metric
+        (lent_with out.old work.old index.old) (lent_with out.new work.new index.new) result }
+    ensures same { SameOutput out.old out.new }
 {
-    fit_ladder(ladder, Call::SearchSpread(tolerance), slices)
+    fit_ladder(ladder, Call::SearchSpread(tolerance), out, work, index)
 }

@@ -2,24 +2,24 @@
 ghost use Rattle.std.specs.Prelude.{◌≤◌, length};
 ghost use Rattle.making.specs.HandedOut.{HasKnotsOut, HandedKnots, HandedOut};
 
-use checks::slices::{KnotSlices, Output};
+use checks::slices::Output;
 
 // Flat knots, and their runs; how many distinct knots they are.
 #[tactic(auto, using(crate::proofs::HandedLaws::handed_copy))]
-pub fn hand_knots(flat: &[f64], out: &mut KnotSlices) -> usize
-    requires { HasKnotsOut (length flat.now) out.old }
-    ensures { HandedKnots flat.now out.old out.new result }
+pub fn hand_knots(from: &[f64], flat: &mut [f64], knots: &mut [f64], mults: &mut [u32]) -> usize
+    requires { HasKnotsOut (length from.now) flat.old knots.old mults.old }
+    ensures { HandedKnots from.now flat.old flat.new knots.old knots.new mults.old mults.new result }
 {
-    out.flat[0..flat.len()].copy_from_slice(flat);
-    knots::runs::compress_knots(flat, out.distinct, out.mults)
+    flat[..from.len()].copy_from_slice(from);
+    knots::runs::compress_knots(from, knots, mults)
 }
 
 // Poles and flat knots; how many distinct knots they are.
 #[tactic(auto, using(crate::proofs::HandedLaws::handed_copy))]
 pub fn hand_out(poles: &[f64], flat: &[f64], out: &mut Output) -> usize
-    requires { HasKnotsOut (length flat.now) out.old.knots × (length poles.now ≤ length out.old.poles.now) }
+    requires { HasKnotsOut (length flat.now) out.old.flat.now out.old.knots.now out.old.mults.now × (length poles.now ≤ length out.old.poles.now) }
     ensures { HandedOut poles.now flat.now out.old out.new result }
 {
     out.poles[0..poles.len()].copy_from_slice(poles);
-    hand_knots(flat, &mut out.knots)
+    hand_knots(flat, out.flat, out.knots, out.mults)
 }

@@ -7,4 +7,4 @@ pub returns-in_err-check_ladder-clause-call : goal.returns-in_err-check_ladder-c
 returns-in_err-check_ladder-clause-call c = call_refused _ _ _ _ c.in_err-check_ladder.field-0.0 _ _ (search rules) (search rules)
 
 pub returns-clause-call : goal.returns-clause-call
-returns-clause-call c = call_passed _ _ _ _ c.args.slices.now.out c.fit_passed-answer.new.out (search rules) c.fit_passed-answer.ensures.hands (search rules) (search rules)
+returns-clause-call c = call_passed _ _ _ _ c.args.out.now c.fit_passed-answer.new.out (search rules) c.fit_passed-answer.ensures.hands (search rules) (search rules)

@@ -1,7 +1,6 @@
 -- The columns are fitted over the rows' fit, which stays as it is. Assumes nothing.
-use Rattle.std.proofs.Common.{rules, ◌≡◌, ◌-◌, ◌≤◌, ◌∙◌, refl, arith, length, Ok, Err}
-use Rattle.fitting.specs.declared.room.Sizes.{Sizes}
-use Rattle.fitting.specs.Room.{places_of, HasSizes}
+use Rattle.std.proofs.Common.{rules, ◌≡◌, ◌-◌, ◌≤◌, refl, arith, length, Ok, Err}
+use Rattle.fitting.specs.Room.{places_of}
 use Rattle.grids.specs.GridRuns.{columns_sizes}
 use Rattle.grids.proofs.RoomLaws.{u_under, columns_asked, columns_within}
 use Rattle.grids.proofs.GridRunLaws.{refused, columns_fail, columns_stand, hands_grid}

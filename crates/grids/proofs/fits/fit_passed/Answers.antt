@@ -1,10 +1,8 @@
 -- The parameters along u stand in the first places of the work and those along v behind them; where both are found and the counts pass, the fits follow. Assumes nothing.
-use Rattle.std.proofs.Common.{rules, ◌≡◌, sym, ap, ◌∙◌, ◌+◌, ◌-◌, ◌≤◌, length, take, Err, arith}
+use Rattle.std.proofs.Common.{rules, ◌≡◌, sym, ap, ◌∙◌, ◌+◌, ◌≤◌, length, take, Err}
 use Rattle.std.proofs.Math.Option.{some}
-use Rattle.bspline.specs.declared.Refusal.TheVariants.{ConfusedPoints}
 use Rattle.bspline.specs.Refusals.{pass}
 use Rattle.checks.specs.Slices.{grid_in}
-use Rattle.grids.specs.Grids.{u_parameters, v_parameters}
 use Rattle.grids.proofs.RoomLaws.{room_after}
 use Rattle.grids.proofs.GridRunLaws.{refused, same_hands}
 use Rattle.grids.proofs.GridCallLaws.{u_shared, v_shared, u_none, v_none, counts_stop, counts_pass}

@@ -1,5 +1,5 @@
 -- The rows' fit stands in its regions with its table, and the columns are fitted over it. Assumes nothing.
-use Rattle.std.proofs.Common.{rules, ◌≡◌, ◌∙◌, refl, Ok, Err}
+use Rattle.std.proofs.Common.{rules, ◌≡◌, refl, Ok, Err}
 use Rattle.grids.proofs.RoomLaws.{v_under, rows_asked}
 use Rattle.grids.proofs.GridRunLaws.{refused, rows_fail, rows_over, stands_still, same_hands}
 use Rattle.grids.proofs.fits.fit_rows.Goals as goal

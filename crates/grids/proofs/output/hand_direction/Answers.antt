@@ -1,4 +1,4 @@
--- What is pending. Assumes nothing.
+-- A fit that stands is the one that is told. Assumes nothing.
 use Rattle.std.proofs.Common.{rules}
 use Rattle.grids.proofs.FitLaws.{hands_direction}
 use Rattle.grids.proofs.output.hand_direction.Goals as goal
