@@ -99,10 +99,14 @@ module _ {call : SurfaceCall} {g : Grid} {u v : ℕ} (p : HasParams call g u v) 
 
 -- ---- room
 
--- a grid has no fewer columns than the row poles
-pub columns_within : (h : Shape) (n : ℕ) {w i : ℕ} → n ≤ h.cols → ColumnsRoom h w i → places_of (columns_sizes h n) + saved_places (columns_sizes h n) ≤ w
+-- the columns' regions, which are no more than the grid's columns
+pub columns_within : {g : Grid} {rows : StandingFit} {us : List Float} {j : Job} {w i : ℕ} → OverRows g rows → ColumnsJob g rows us j → ColumnsRoom g.shape w i
+    → places_of (columns_sizes g.shape j.lines.lines) + saved_places (columns_sizes g.shape j.lines.lines) ≤ w
 unfolding places_of
-columns_within h n most room = let a : n * h.rows ≤ h.cols * h.rows = mul-le-mul_right h.rows most in omega (arith, room.for_work)
+columns_within {g} {rows} {us} {j} o c room =
+    let n : j.lines.lines ≤ g.shape.cols = omega (arith, c.lines, rows.stands.few.most, o.params) in
+    let a : j.lines.lines * g.shape.rows ≤ g.shape.cols * g.shape.rows = mul-le-mul_right g.shape.rows n in
+    omega (arith, room.for_work, n)
 
 -- what the checks give
 v-places : (h : Shape) → h.v * h.cols ≤ max h.u h.v * max h.rows h.cols

@@ -25,7 +25,14 @@ pub fn fit_grid(grid: Grid, call: SurfaceCall, out: &mut GridOutput, work: &mut 
 }
 
 // The grid's `approximate`: least squares with chosen pole counts along u and v.
-pub fn approximate(grid: Grid, ucount: usize, vcount: usize, out: &mut GridOutput, work: &mut [f64], index: &mut [usize]) -> Result<GridFit, Refusal>
+pub fn approximate(
+    grid: Grid,
+    ucount: usize,
+    vcount: usize,
+    out: &mut GridOutput,
+    work: &mut [f64],
+    index: &mut [usize],
+) -> Result<GridFit, Refusal>
     ensures call { ApproximatesGrid (grid_in grid.entry) ucount vcount (grid_lent_with out.old work.old index.old) (grid_lent_with out.new work.new index.new) result }
     ensures same { SameGridOutput out.old out.new }
 {
@@ -33,7 +40,13 @@ pub fn approximate(grid: Grid, ucount: usize, vcount: usize, out: &mut GridOutpu
 }
 
 // The grid's `approximate_within`: the rows within 0.8 of the tolerance, then the whole grid within it.
-pub fn approximate_within(grid: Grid, tolerance: f64, out: &mut GridOutput, work: &mut [f64], index: &mut [usize]) -> Result<GridFit, Refusal>
+pub fn approximate_within(
+    grid: Grid,
+    tolerance: f64,
+    out: &mut GridOutput,
+    work: &mut [f64],
+    index: &mut [usize],
+) -> Result<GridFit, Refusal>
     ensures call { ApproximatesGridWithin (grid_in grid.entry) tolerance (grid_lent_with out.old work.old index.old) (grid_lent_with out.new work.new index.new) result }
     ensures same { SameGridOutput out.old out.new }
 {

@@ -2,5 +2,5 @@
 use Rattle.surfaces.proofs.GridLaws.{approximates_grid-within}
 use Rattle.surfaces.proofs.approximate_within.Goals as goal
 
-pub returns : goal.returns
-returns c = approximates_grid-within _ _ _ _ _ c.fit_grid.ensures
+pub returns-clause-call : goal.returns-clause-call
+returns-clause-call c = approximates_grid-within _ _ _ _ _ c.fit_grid.ensures.call

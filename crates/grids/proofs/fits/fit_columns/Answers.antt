@@ -1,5 +1,5 @@
 -- The columns are fitted over the rows' fit, which stays as it is. Assumes nothing.
-use Rattle.std.proofs.Common.{rules, ◌≡◌, ◌-◌, ◌≤◌, refl, arith, length, Ok, Err}
+use Rattle.std.proofs.Common.{rules, ◌≡◌, ◌-◌, refl, arith, length, Ok, Err}
 use Rattle.fitting.specs.Room.{places_of}
 use Rattle.grids.specs.GridRuns.{columns_sizes}
 use Rattle.grids.proofs.RoomLaws.{u_under, columns_asked, columns_within}
@@ -11,18 +11,15 @@ columns_job-job-requires-clause-params c = (c.requires.params.for_u, u_under c.r
 
 pub split_at_mut-near-requires : goal.split_at_mut-near-requires
 split_at_mut-near-requires c =
-    let n : c.columns_job-job.result.lines.lines ≤ c.args.grid.shape.cols = omega (arith, c.columns_job-job.ensures.lines, c.args.rows.stands.few.most, c.requires.over.params) in
-    let room = columns_within c.args.grid.shape c.columns_job-job.result.lines.lines n c.requires.room.1 in
+    let room = columns_within c.requires.over c.columns_job-job.ensures c.requires.room.1 in
     rw (c.places.ensures, c.columns_sizes-sizes.ensures) (omega (arith, room))
 
 pub new-saved-requires : goal.new-saved-requires
 new-saved-requires c =
-    let n : c.columns_job-job.result.lines.lines ≤ c.args.grid.shape.cols = omega (arith, c.columns_job-job.ensures.lines, c.args.rows.stands.few.most, c.requires.over.params) in
-    let room = columns_within c.args.grid.shape c.columns_job-job.result.lines.lines n c.requires.room.1 in
-    let z : c.places.result ≡ places_of (columns_sizes c.args.grid.shape c.columns_job-job.result.lines.lines) = rw c.columns_sizes-sizes.ensures at c.places.ensures in
-    let f : c.places.result ≤ length c.args.work.now = rw z (omega (arith, room)) in
-    let long : length c.split_at_mut-near.result.1.now ≡ length c.args.work.now - c.places.result = search rules in
-    (search rules, rw c.columns_sizes-sizes.ensures (omega (arith, room, z, long, f)))
+    let room = columns_within c.requires.over c.columns_job-job.ensures c.requires.room.1 in
+    let near : c.places.result ≡ places_of (columns_sizes c.args.grid.shape c.columns_job-job.result.lines.lines) = rw c.columns_sizes-sizes.ensures at c.places.ensures in
+    let behind : length c.split_at_mut-near.result.1.now ≡ length c.args.work.now - c.places.result = search rules in
+    (search rules, rw c.columns_sizes-sizes.ensures (omega (arith, room, near, behind)))
 
 pub make_direction-requires : goal.make_direction-requires
 make_direction-requires c =
