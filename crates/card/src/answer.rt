@@ -10,7 +10,7 @@ use card_printer::{Curve, KNOTS, POLES, ROOM};
 use card_reader::{Card, CardError, Head, PLACES};
 use checks::Call;
 use checks::given::Ladder;
-use checks::slices::{KnotSlices, Output, Slices};
+use checks::slices::Output;
 use fitting::Fit;
 use knots::Metric;
 
@@ -38,10 +38,10 @@ fn put_handed(
 ) -> usize
     requires few { FewIn answer }
     requires poles { POLES ≤ length handed.now.poles.now }
-    requires knots { KNOTS ≤ length handed.now.knots.distinct.now }
-    requires mults { KNOTS ≤ length handed.now.knots.mults.now }
+    requires knots { KNOTS ≤ length handed.now.knots.now }
+    requires mults { KNOTS ≤ length handed.now.mults.now }
     requires room { ROOM ≤ length out.old }
-    ensures put { Put out.old out.new 0 result (handed_text answer handed.now.poles.now handed.now.knots.distinct.now handed.now.knots.mults.now) }
+    ensures put { Put out.old out.new 0 result (handed_text answer handed.now.poles.now handed.now.knots.now handed.now.mults.now) }
     ensures prefix { IsPrefixLen result out.new }
 {
     match answer {
@@ -50,8 +50,8 @@ fn put_handed(
             let curve = Curve {
                 mark: f.mark,
                 unreadable: f.unreadable,
-                knots: &handed.knots.distinct[..f.knots],
-                mults: &handed.knots.mults[..f.knots],
+                knots: &handed.knots[..f.knots],
+                mults: &handed.mults[..f.knots],
                 poles: &handed.poles[..3 * f.poles],
             };
             card_printer::put_answer(&curve, out)
@@ -68,7 +68,7 @@ fn fit_card(head: Head, points: &[f64], out: &mut [u8]) -> usize
 {
     let mut poles = [0.0; POLES];
     let mut flat = [0.0; KNOTS];
-    let mut distinct = [0.0; KNOTS];
+    let mut knots = [0.0; KNOTS];
     let mut mults = [0u32; KNOTS];
     let mut work = [0.0; WORK];
     let mut index = [0usize; INDEX];
@@ -81,21 +81,15 @@ fn fit_card(head: Head, points: &[f64], out: &mut [u8]) -> usize
         degree: head.degree,
         metric,
     };
-    let knots = KnotSlices {
+    let mut handed = Output {
+        poles: &mut poles,
         flat: &mut flat,
-        distinct: &mut distinct,
+        knots: &mut knots,
         mults: &mut mults,
     };
-    let mut slices = Slices {
-        out: Output {
-            poles: &mut poles,
-            knots,
-        },
-        work: &mut work,
-        index: &mut index,
-    };
-    let fitted = ladders::fit_ladder(ladder, call_of(head.tolerance), &mut slices);
-    put_handed(fitted, &slices.out, out)
+    let call = call_of(head.tolerance);
+    let fitted = ladders::fit_ladder(ladder, call, &mut handed, &mut work, &mut index);
+    put_handed(fitted, &handed, out)
 }
 
 // The text of a judged text's answer: 11, then 8, then the fit of the card's points.

@@ -5,7 +5,7 @@ ghost use Rattle.knots.specs.Parameters.{metric_of};
 ghost use Rattle.telling.specs.ToldGrid.{shape_of, ToldGrid, ToldGridWithin};
 
 use checks::given::Grid;
-use checks::slices::{GridOutput, GridSlices, KnotSlices};
+use checks::slices::GridOutput;
 use checks::{Shape, SurfaceCall};
 use knots::Metric;
 use telling::grid::call_grid;
@@ -50,23 +50,17 @@ pub extern "C" fn nigorzai_approximate_grid(
         shape,
         metric: Metric::new(spacing, factor),
     };
-    let u = KnotSlices {
-        flat: uflat,
-        distinct: uknots,
-        mults: umults,
-    };
-    let v = KnotSlices {
-        flat: vflat,
-        distinct: vknots,
-        mults: vmults,
-    };
-    let mut slices = GridSlices {
-        out: GridOutput { poles, u, v },
-        work,
-        index,
+    let mut out = GridOutput {
+        poles,
+        uflat,
+        uknots,
+        umults,
+        vflat,
+        vknots,
+        vmults,
     };
     let call = SurfaceCall::Approximate(ucount, vcount);
-    call_grid(grid, call, &mut slices, largest, counts)
+    call_grid(grid, call, &mut out, work, index, largest, counts)
 }
 
 // Within a tolerance: the rows within 0.8 of it along v, then the whole grid within it along u.
@@ -108,21 +102,15 @@ pub extern "C" fn nigorzai_approximate_grid_within(
         shape,
         metric: Metric::new(spacing, factor),
     };
-    let u = KnotSlices {
-        flat: uflat,
-        distinct: uknots,
-        mults: umults,
-    };
-    let v = KnotSlices {
-        flat: vflat,
-        distinct: vknots,
-        mults: vmults,
-    };
-    let mut slices = GridSlices {
-        out: GridOutput { poles, u, v },
-        work,
-        index,
+    let mut out = GridOutput {
+        poles,
+        uflat,
+        uknots,
+        umults,
+        vflat,
+        vknots,
+        vmults,
     };
     let call = SurfaceCall::ApproximateWithin(tolerance);
-    call_grid(grid, call, &mut slices, largest, counts)
+    call_grid(grid, call, &mut out, work, index, largest, counts)
 }

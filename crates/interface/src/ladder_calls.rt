@@ -6,7 +6,7 @@ ghost use Rattle.telling.specs.Told.{Told, ToldWithin, ToldSpread};
 
 use checks::Call;
 use checks::given::Ladder;
-use checks::slices::{KnotSlices, Output, Slices};
+use checks::slices::Output;
 use knots::Metric;
 use telling::ladder::call_ladder;
 
@@ -37,17 +37,13 @@ pub extern "C" fn nigorzai_interpolate(
         degree,
         metric: Metric::new(spacing, factor),
     };
-    let knots = KnotSlices {
+    let mut out = Output {
+        poles,
         flat,
-        distinct: knots,
+        knots,
         mults,
     };
-    let mut slices = Slices {
-        out: Output { poles, knots },
-        work,
-        index,
-    };
-    call_ladder(ladder, call, &mut slices, largest, counts)
+    call_ladder(ladder, call, &mut out, work, index, largest, counts)
 }
 
 // Least squares with a chosen pole count.
@@ -78,17 +74,13 @@ pub extern "C" fn nigorzai_approximate(
         degree,
         metric: Metric::new(spacing, factor),
     };
-    let knots = KnotSlices {
+    let mut out = Output {
+        poles,
         flat,
-        distinct: knots,
+        knots,
         mults,
     };
-    let mut slices = Slices {
-        out: Output { poles, knots },
-        work,
-        index,
-    };
-    call_ladder(ladder, call, &mut slices, largest, counts)
+    call_ladder(ladder, call, &mut out, work, index, largest, counts)
 }
 
 // Within a tolerance: by refinement, else by the spread search, else through the points.
@@ -119,17 +111,13 @@ pub extern "C" fn nigorzai_approximate_within(
         degree,
         metric: Metric::new(spacing, factor),
     };
-    let knots = KnotSlices {
+    let mut out = Output {
+        poles,
         flat,
-        distinct: knots,
+        knots,
         mults,
     };
-    let mut slices = Slices {
-        out: Output { poles, knots },
-        work,
-        index,
-    };
-    call_ladder(ladder, call, &mut slices, largest, counts)
+    call_ladder(ladder, call, &mut out, work, index, largest, counts)
 }
 
 // The spread search alone, else through the points.
@@ -160,15 +148,11 @@ pub extern "C" fn nigorzai_search_spread(
         degree,
         metric: Metric::new(spacing, factor),
     };
-    let knots = KnotSlices {
+    let mut out = Output {
+        poles,
         flat,
-        distinct: knots,
+        knots,
         mults,
     };
-    let mut slices = Slices {
-        out: Output { poles, knots },
-        work,
-        index,
-    };
-    call_ladder(ladder, call, &mut slices, largest, counts)
+    call_ladder(ladder, call, &mut out, work, index, largest, counts)
 }

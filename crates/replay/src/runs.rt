@@ -6,7 +6,6 @@ ghost use Rattle.replay.specs.Runs.{compared, capped, needed, Fits, RanOn, TurnA
 use bspline::Refusal;
 use checks::Room;
 use checks::given::Ladder;
-use checks::slices::{KnotSlices, Slices};
 use fitting::Fit;
 use knots::Metric;
 use replay_list::answers::Output;
@@ -103,26 +102,20 @@ fn run_case(words: &[u64], case: Case, buffers: &mut Buffers) -> Option<Turn>
         degree: case.degree,
         metric,
     };
-    let knots = KnotSlices {
+    let mut out = checks::slices::Output {
+        poles: &mut buffers.poles.as_mut_slice()[..room.poles],
         flat: &mut buffers.flat.as_mut_slice()[..room.flat],
-        distinct: &mut buffers.knots.as_mut_slice()[..room.knots],
+        knots: &mut buffers.knots.as_mut_slice()[..room.knots],
         mults: &mut buffers.mults.as_mut_slice()[..room.mults],
     };
-    let mut slices = Slices {
-        out: checks::slices::Output {
-            poles: &mut buffers.poles.as_mut_slice()[..room.poles],
-            knots,
-        },
-        work: &mut buffers.work.as_mut_slice()[..room.work],
-        index: &mut buffers.index.as_mut_slice()[..room.index],
-    };
-    let answer = ladders::fit_ladder(ladder, case.call, &mut slices);
-    let out = &slices.out;
+    let work = &mut buffers.work.as_mut_slice()[..room.work];
+    let index = &mut buffers.index.as_mut_slice()[..room.index];
+    let answer = ladders::fit_ladder(ladder, case.call, &mut out, work, index);
     let output = Output {
-        poles: &out.poles[..],
-        flat: &out.knots.flat[..],
-        knots: &out.knots.distinct[..],
-        mults: &out.knots.mults[..],
+        poles: out.poles,
+        flat: out.flat,
+        knots: out.knots,
+        mults: out.mults,
     };
     compare(words, case, answer, output)
 }

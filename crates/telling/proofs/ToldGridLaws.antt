@@ -14,9 +14,9 @@ use Rattle.checks.specs.LadderChecks.{cleared}
 use Rattle.checks.specs.declared.SurfaceCall.{SurfaceCall}
 use Rattle.checks.specs.declared.SurfaceCall.TheVariants.{ApproximateWithin}
 use Rattle.checks.specs.GridChecks.{Grid, GridLent, grid_room_of, grid_checks}
-use Rattle.grids.specs.Grids.{GridResult, grid_refused, grid_fit, grid_checked, grid_result_of, grid_result_number, grid_answer_of, GridCall, GridAnswer}
+use Rattle.grids.specs.Grids.{GridResult, grid_refused, grid_fit, grid_checked, grid_result_of, grid_result_number, grid_answer_of, HandsOutGrid, GridCall, GridAnswer}
 use Rattle.checks.proofs.GridCheckLaws.{grid_gives}
-use Rattle.grids.proofs.GridRunLaws.{grid-refused}
+use Rattle.grids.proofs.GridRunLaws.{refused}
 use Rattle.surfaces.proofs.GridLaws.{grid-handed-kept}
 use Rattle.telling.specs.ToldGrid.{tellable_grid, no_grid, judged_grid, told_grid_largest, told_grid_counts, ToldGridBy, ToldGrid, ToldGridWithin}
 use Rattle.std.specs.Prelude.{Ok, Err}
@@ -30,10 +30,6 @@ few-largest largest counts h = ap (λ (b : Bool). not b && not (ltb (length coun
 pub few-counts : (largest : List Float) (counts : List ℕ) → 2 ≤ length largest → length counts < 8 → tellable_grid largest counts ≡ false
 few-counts largest counts h k =
     ap (λ (b : Bool). not b && not (ltb (length counts) 8)) (le-ltb (length largest) 2 h) ∙ ap not (lt-ltb (length counts) 8 k)
-
-pub enough : (largest : List Float) (counts : List ℕ) → 2 ≤ length largest → 8 ≤ length counts → tellable_grid largest counts ≡ true
-enough largest counts h k =
-    ap (λ (b : Bool). not b && not (ltb (length counts) 8)) (le-ltb (length largest) 2 h) ∙ ap not (le-ltb (length counts) 8 k)
 
 module _ (call : SurfaceCall) (g : Grid) where
   -- with nothing lent the checks stop
@@ -51,7 +47,7 @@ module _ (call : SurfaceCall) (g : Grid) where
   refused_untouched (Ok p) e l largest counts r n = absurd (stops e)
   refused_untouched (Err c) e l largest counts r n =
       let q : grid_result_of call g no_grid ≡ grid_refused c = ap (λ (w : Verdict). grid_checked w (grid_fit call g)) e in
-      let h = grid-refused g.shape (grid_result_of call g no_grid) c q l.work l.work l.index l.index in
+      let h : HandsOutGrid g.shape (grid_result_of call g no_grid) l l (Err c) = refused q in
       record {
         number = n;
         hands = record { answer = refl; poles = h.poles; u_flat = h.u_flat; u_knots = h.u_knots; u_mults = h.u_mults; v_flat = h.v_flat; v_knots = h.v_knots; v_mults = h.v_mults };
@@ -93,3 +89,8 @@ pub told_grid-within : (g : Grid) (t : Float) (l l' : GridLent) (largest largest
     → ToldGrid (ApproximateWithin t) g l l' largest largest' counts counts' r → ToldGridWithin g t l l' largest largest' counts counts' r
 told_grid-within g t l l' largest largest' counts counts' r x =
     record { call = x; kept = grid-handed-kept g t l l' _ (judged_grid l largest counts) (lends (ApproximateWithin t) g (tellable_grid largest counts) l) x.hands }
+
+-- for the number of a call with no room, and for any call
+pub ruleset refusing = (stopped-number)
+
+pub ruleset telling = (told-short, told-room, few-largest, few-counts)

@@ -31,10 +31,6 @@ pub few-counts : (largest : List Float) (counts : List ℕ) → 1 ≤ length lar
 few-counts largest counts h k =
     ap (λ (b : Bool). not b && not (ltb (length counts) 4)) (le-ltb (length largest) 1 h) ∙ ap not (lt-ltb (length counts) 4 k)
 
-pub enough : (largest : List Float) (counts : List ℕ) → 1 ≤ length largest → 4 ≤ length counts → tellable largest counts ≡ true
-enough largest counts h k =
-    ap (λ (b : Bool). not b && not (ltb (length counts) 4)) (le-ltb (length largest) 1 h) ∙ ap not (le-ltb (length counts) 4 k)
-
 module _ (call : Call) (s : List Float) (degree : ℕ) (v : Metric) where
   -- with nothing lent the checks stop
   pub stops : ladder_checks call s degree v nothing ≡ pass → ⊥
@@ -94,3 +90,8 @@ module _ (s : List Float) (degree : ℕ) (t : Float) (v : Metric) (l l' : Lent) 
 
   pub told-spread : Told (SearchSpread t) s degree v l l' largest largest' counts counts' r → ToldSpread s degree t v l l' largest largest' counts counts' r
   told-spread x = record { call = x; kept = spread-handed s degree t v l l' _ (judged l largest counts) (lends (SearchSpread t) s degree v (tellable largest counts) l) x.hands }
+
+-- for the number of a call with no room, and for any call
+pub ruleset refusing = (stopped-number)
+
+pub ruleset telling = (told-short, told-room, few-largest, few-counts)
