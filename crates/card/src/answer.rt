@@ -33,15 +33,17 @@ fn call_of(tolerance: Option<u64>) -> Call
 #[tactic(auto, unfolding(crate::specs::Answers::handed_text))]
 fn put_handed(
     answer: Result<Fit, Refusal>,
-    handed: &Output,
+    poles: &[f64],
+    knots: &[f64],
+    mults: &[u32],
     out: &mut [u8],
 ) -> usize
     requires few { FewIn answer }
-    requires poles { POLES ≤ length handed.now.poles.now }
-    requires knots { KNOTS ≤ length handed.now.knots.now }
-    requires mults { KNOTS ≤ length handed.now.mults.now }
+    requires poles { POLES ≤ length poles.now }
+    requires knots { KNOTS ≤ length knots.now }
+    requires mults { KNOTS ≤ length mults.now }
     requires room { ROOM ≤ length out.old }
-    ensures put { Put out.old out.new 0 result (handed_text answer handed.now.poles.now handed.now.knots.now handed.now.mults.now) }
+    ensures put { Put out.old out.new 0 result (handed_text answer poles.now knots.now mults.now) }
     ensures prefix { IsPrefixLen result out.new }
 {
     match answer {
@@ -50,9 +52,9 @@ fn put_handed(
             let curve = Curve {
                 mark: f.mark,
                 unreadable: f.unreadable,
-                knots: &handed.knots[..f.knots],
-                mults: &handed.mults[..f.knots],
-                poles: &handed.poles[..3 * f.poles],
+                knots: &knots[..f.knots],
+                mults: &mults[..f.knots],
+                poles: &poles[..3 * f.poles],
             };
             card_printer::put_answer(&curve, out)
         }
@@ -89,7 +91,7 @@ fn fit_card(head: Head, points: &[f64], out: &mut [u8]) -> usize
     };
     let call = call_of(head.tolerance);
     let fitted = ladders::fit_ladder(ladder, call, &mut handed, &mut work, &mut index);
-    put_handed(fitted, &handed, out)
+    put_handed(fitted, &poles, &knots, &mults, out)
 }
 
 // The text of a judged text's answer: 11, then 8, then the fit of the card's points.

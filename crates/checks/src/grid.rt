@@ -5,8 +5,8 @@ ghost use Rattle.std.specs.Prelude.{◌≡◌, ◌≤◌, length, OnOk};
 ghost use Rattle.checks.specs.GridChecks.{work_length, index_length, grid_shape_verdict, grid_room_verdict, grid_checks, counts_verdict, GridShaped, GridRoomy};
 ghost use Rattle.checks.specs.Slices.{grid_in};
 
-use crate::ladder::{check_chosen, check_coordinates, check_unchosen};
 use crate::given::Grid;
+use crate::ladder::{check_chosen, check_coordinates, check_unchosen};
 use crate::{GridRoom, Shape, SurfaceCall};
 use bspline::{Refusal, check_factor};
 

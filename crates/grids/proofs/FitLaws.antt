@@ -98,5 +98,5 @@ module _ (x : StandingFit) where
   hands_direction h = record {
     answer = rw h.runs.count (sym handed_back);
     poles = refl;
-    handed = record { for_flat = h.for_flat; runs = record { count = refl; values = h.runs.values; multiplicities = h.runs.multiplicities }};
+    handed = record { for_flat = h.for_flat; runs = record { count = refl; values = h.runs.values; multiplicities = h.runs.multiplicities } };
   }

@@ -128,7 +128,13 @@ fn fit_passed(
 }
 
 // Any of the calls.
-pub fn fit_ladder(ladder: Ladder, call: Call, out: &mut Output, work: &mut [f64], index: &mut [usize]) -> Result<Fit, Refusal>
+pub fn fit_ladder(
+    ladder: Ladder,
+    call: Call,
+    out: &mut Output,
+    work: &mut [f64],
+    index: &mut [usize],
+) -> Result<Fit, Refusal>
     ensures call { LadderCall call ladder.entry.points.now ladder.entry.degree ladder.entry.metric
         (lent_with out.old work.old index.old) (lent_with out.new work.new index.new) result }
     ensures same { SameOutput out.old out.new }
@@ -141,7 +147,12 @@ pub fn fit_ladder(ladder: Ladder, call: Call, out: &mut Output, work: &mut [f64]
 }
 
 // `interpolate`: the curve through the points, with as many poles.
-pub fn interpolate(ladder: Ladder, out: &mut Output, work: &mut [f64], index: &mut [usize]) -> Result<Fit, Refusal>
+pub fn interpolate(
+    ladder: Ladder,
+    out: &mut Output,
+    work: &mut [f64],
+    index: &mut [usize],
+) -> Result<Fit, Refusal>
     ensures call { Interpolates ladder.entry.points.now ladder.entry.degree ladder.entry.metric
         (lent_with out.old work.old index.old) (lent_with out.new work.new index.new) result }
     ensures same { SameOutput out.old out.new }
@@ -150,7 +161,13 @@ pub fn interpolate(ladder: Ladder, out: &mut Output, work: &mut [f64], index: &m
 }
 
 // `approximate`: least squares with a chosen pole count.
-pub fn approximate(ladder: Ladder, count: usize, out: &mut Output, work: &mut [f64], index: &mut [usize]) -> Result<Fit, Refusal>
+pub fn approximate(
+    ladder: Ladder,
+    count: usize,
+    out: &mut Output,
+    work: &mut [f64],
+    index: &mut [usize],
+) -> Result<Fit, Refusal>
     ensures call { Approximates ladder.entry.points.now ladder.entry.degree count ladder.entry.metric
         (lent_with out.old work.old index.old) (lent_with out.new work.new index.new) result }
     ensures same { SameOutput out.old out.new }
@@ -159,7 +176,13 @@ pub fn approximate(ladder: Ladder, count: usize, out: &mut Output, work: &mut [f
 }
 
 // `approximate_within`: refinement, else the spread search, else the curve through the points.
-pub fn approximate_within(ladder: Ladder, tolerance: f64, out: &mut Output, work: &mut [f64], index: &mut [usize]) -> Result<Fit, Refusal>
+pub fn approximate_within(
+    ladder: Ladder,
+    tolerance: f64,
+    out: &mut Output,
+    work: &mut [f64],
+    index: &mut [usize],
+) -> Result<Fit, Refusal>
     ensures call { ApproximatesWithin ladder.entry.points.now ladder.entry.degree tolerance ladder.entry.metric
         (lent_with out.old work.old index.old) (lent_with out.new work.new index.new) result }
     ensures same { SameOutput out.old out.new }
@@ -168,7 +191,13 @@ pub fn approximate_within(ladder: Ladder, tolerance: f64, out: &mut Output, work
 }
 
 // The spread search alone, else the curve through the points.
-pub fn search_spread(ladder: Ladder, tolerance: f64, out: &mut Output, work: &mut [f64], index: &mut [usize]) -> Result<Fit, Refusal>
+pub fn search_spread(
+    ladder: Ladder,
+    tolerance: f64,
+    out: &mut Output,
+    work: &mut [f64],
+    index: &mut [usize],
+) -> Result<Fit, Refusal>
     ensures call { SearchesSpread ladder.entry.points.now ladder.entry.degree tolerance ladder.entry.metric
         (lent_with out.old work.old index.old) (lent_with out.new work.new index.new) result }
     ensures same { SameOutput out.old out.new }

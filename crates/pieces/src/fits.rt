@@ -16,7 +16,13 @@ use tables::basis_table::Table;
 use tables::deviations::{grid_deviations, ladder_deviations, row_deviations};
 
 #[unsafe(no_mangle)]
-pub extern "C" fn pieces_fill_table(flat: &[f64], degree: usize, params: &[f64], firsts: &mut [usize], values: &mut [f64])
+pub extern "C" fn pieces_fill_table(
+    flat: &[f64],
+    degree: usize,
+    params: &[f64],
+    firsts: &mut [usize],
+    values: &mut [f64],
+)
     requires { FillsBy degree flat.now params.now firsts.old values.old }
     ensures firsts_after { firsts.new ≡ (basis_table flat.now degree params.now).firsts }
     ensures values_after { values.new ≡ (basis_table flat.now degree params.now).values }

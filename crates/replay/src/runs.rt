@@ -4,8 +4,8 @@ ghost use Rattle.replay_list.specs.Listed.{listed_at};
 ghost use Rattle.replay.specs.Runs.{compared, capped, needed, Fits, RanOn, TurnAt, TalliedAs};
 
 use bspline::Refusal;
-use checks::Room;
 use checks::given::Ladder;
+use checks::{Room, slices};
 use fitting::Fit;
 use knots::Metric;
 use replay_list::answers::Output;
@@ -71,10 +71,21 @@ fn lengths(n: usize, degree: usize, shorter: usize) -> Room
 
 // A case's answer beside the list's.
 #[tactic(auto, unfolding(crate::specs::Runs::compared))]
-fn compare(words: &[u64], case: Case, answer: Result<Fit, Refusal>, output: Output) -> Option<Turn>
-    ensures { result ≡ compared answer words.now case.entry.answer case.entry.degree output.entry.poles.now output.entry.flat.now output.entry.knots.now output.entry.mults.now
+fn compare(
+    words: &[u64],
+    case: Case,
+    answer: Result<Fit, Refusal>,
+    out: &slices::Output,
+) -> Option<Turn>
+    ensures { result ≡ compared answer words.now case.entry.answer case.entry.degree out.now.poles.now out.now.flat.now out.now.knots.now out.now.mults.now
         (listed_at words.now case.entry.answer case.entry.degree) }
 {
+    let output = Output {
+        poles: out.poles,
+        flat: out.flat,
+        knots: out.knots,
+        mults: out.mults,
+    };
     let turn = match replay_list::answers::listed_at(words, case.answer, case.degree)? {
         Ok(fit) => Turn {
             same: replay_list::answers::same_fit(answer, words, fit, output),
@@ -97,27 +108,25 @@ fn run_case(words: &[u64], case: Case, buffers: &mut Buffers) -> Option<Turn>
         spacing: case.spacing,
         factor: 1.0,
     };
+    let poles = &mut buffers.poles.as_mut_slice()[..room.poles];
+    let flat = &mut buffers.flat.as_mut_slice()[..room.flat];
+    let knots = &mut buffers.knots.as_mut_slice()[..room.knots];
+    let mults = &mut buffers.mults.as_mut_slice()[..room.mults];
+    let mut out = slices::Output {
+        poles,
+        flat,
+        knots,
+        mults,
+    };
+    let work = &mut buffers.work.as_mut_slice()[..room.work];
+    let index = &mut buffers.index.as_mut_slice()[..room.index];
     let ladder = Ladder {
         points: &buffers.points[..case.count],
         degree: case.degree,
         metric,
     };
-    let mut out = checks::slices::Output {
-        poles: &mut buffers.poles.as_mut_slice()[..room.poles],
-        flat: &mut buffers.flat.as_mut_slice()[..room.flat],
-        knots: &mut buffers.knots.as_mut_slice()[..room.knots],
-        mults: &mut buffers.mults.as_mut_slice()[..room.mults],
-    };
-    let work = &mut buffers.work.as_mut_slice()[..room.work];
-    let index = &mut buffers.index.as_mut_slice()[..room.index];
     let answer = ladders::fit_ladder(ladder, case.call, &mut out, work, index);
-    let output = Output {
-        poles: out.poles,
-        flat: out.flat,
-        knots: out.knots,
-        mults: out.mults,
-    };
-    compare(words, case, answer, output)
+    compare(words, case, answer, &out)
 }
 
 // Runs the case whose words start at a place.

@@ -13,7 +13,13 @@ use grids::GridFit;
 use grids::fits::fit_passed;
 
 // Either of the calls.
-pub fn fit_grid(grid: Grid, call: SurfaceCall, out: &mut GridOutput, work: &mut [f64], index: &mut [usize]) -> Result<GridFit, Refusal>
+pub fn fit_grid(
+    grid: Grid,
+    call: SurfaceCall,
+    out: &mut GridOutput,
+    work: &mut [f64],
+    index: &mut [usize],
+) -> Result<GridFit, Refusal>
     ensures call { GridCall call (grid_in grid.entry) (grid_lent_with out.old work.old index.old) (grid_lent_with out.new work.new index.new) result }
     ensures same { SameGridOutput out.old out.new }
 {
@@ -36,7 +42,13 @@ pub fn approximate(
     ensures call { ApproximatesGrid (grid_in grid.entry) ucount vcount (grid_lent_with out.old work.old index.old) (grid_lent_with out.new work.new index.new) result }
     ensures same { SameGridOutput out.old out.new }
 {
-    fit_grid(grid, SurfaceCall::Approximate(ucount, vcount), out, work, index)
+    fit_grid(
+        grid,
+        SurfaceCall::Approximate(ucount, vcount),
+        out,
+        work,
+        index,
+    )
 }
 
 // The grid's `approximate_within`: the rows within 0.8 of the tolerance, then the whole grid within it.
@@ -50,5 +62,11 @@ pub fn approximate_within(
     ensures call { ApproximatesGridWithin (grid_in grid.entry) tolerance (grid_lent_with out.old work.old index.old) (grid_lent_with out.new work.new index.new) result }
     ensures same { SameGridOutput out.old out.new }
 {
-    fit_grid(grid, SurfaceCall::ApproximateWithin(tolerance), out, work, index)
+    fit_grid(
+        grid,
+        SurfaceCall::ApproximateWithin(tolerance),
+        out,
+        work,
+        index,
+    )
 }
