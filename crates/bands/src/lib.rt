@@ -1,5 +1,5 @@
 // Band matrices, stored row by row in lent slices (document 01, part 3; curves/fitting.rs): entries, and one row of a triangular system, for Cholesky's factor and LU
-// alike.
+// alike. Rows and columns go by their numbers: the place of A[i][j] follows from i and j.
 #![tactic(auto)]
 
 ghost use Rattle.std.specs.Prelude.{◌≡◌, ◌+◌, ◌*◌, ◌<◌, length};

@@ -85,7 +85,7 @@ fn cubic_values(flat: &[f64], span: usize, u: f64, values: &mut [f64])
     values[3] = a * z;
 }
 
-// The functions of any degree, two degrees in a pass.
+// The functions of any degree, two degrees in a pass. Passes go by number: the degree that one starts from follows from it.
 fn paired_values(flat: &[f64], span: usize, degree: usize, u: f64, values: &mut [f64])
     requires { (degree ≤ span) × (span + degree < length flat.now) × (degree < length values.old) }
     ensures { values.new ≡ basis_at flat.now degree span u ++ drop (degree + 1) values.old }

@@ -20,7 +20,7 @@ fn halve(flat: &[f64], lo: usize, count: usize, u: f64) -> usize
     lo + flat[lo + 1..lo + count].partition_point(|knot| *knot <= u)
 }
 
-// The last of the spans lo to `from` that has a width, and lo where none has.
+// The last of the spans lo to `from` that has a width, and lo where none has. Downwards by place, as the Rust goes.
 fn step_back(flat: &[f64], lo: usize, from: usize) -> usize
     requires { (lo ≤ from) × (from + 1 < length flat.now) }
     ensures { result ≡ last_with (wide flat.now) lo (from - lo) }

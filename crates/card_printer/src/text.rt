@@ -114,7 +114,7 @@ impl Text<'_> {
         }
     }
 
-    // The lines of the poles.
+    // The lines of the poles. They go by number, as a point is read everywhere.
     fn put_poles(&mut self, poles: &[f64])
         requires { self.old.at + length poles.now / 3 * 51 ≤ length self.old.out.now }
         ensures puts { Puts self.old self.new (joined (length poles.now / 3) (pole_line poles.now)) }

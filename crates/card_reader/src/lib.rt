@@ -59,6 +59,7 @@ pub enum State {
     Y(Head, usize, u64, Digits),
     // count, x, y, and the digits of z
     Z(Head, usize, u64, u64, Digits),
+    // no card's text; it is still read to its end, so this is a state and no error
     Unreadable,
 }
 

@@ -5,7 +5,8 @@ ghost use Rattle.card_reader.specs.Reading.{DigitsOf, literal_next, word_next, d
 use crate::{Digits, Head, PLACES, POINTS, State};
 use knots::Spacing;
 
-// A word of which a byte more is read: its digits, or the whole word, which has ended.
+// A word of which a byte more is read: its digits, or the whole word, which has ended. (In a Result a whole word
+// would be the error.)
 #[derive(Clone, Copy, Debug, PartialEq, Eq)]
 pub enum Word {
     More(Digits),

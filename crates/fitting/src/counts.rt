@@ -35,6 +35,7 @@ pub fn fit_with_fewest_poles(
     requires { HasRegions job at.old × (job.degree < last) × (last ≤ length job.params.now) }
     ensures { FewestFound job.entry tolerance last at.new result }
 {
+    // no iterator: what comes next follows from what the last try is told to have come to
     let mut s = Search::new(job.degree, last);
     while let Some(m) = s.next() {
         s = if passes(job, at, tolerance, m) {

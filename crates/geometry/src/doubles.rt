@@ -3,6 +3,7 @@ ghost use Rattle.std.specs.Prelude.{◌≡◌};
 ghost use Rattle.geometry.specs.Doubles.{larger, largest, is_finite, whole_part};
 
 // The larger of two, as `f64::max` folds it from 0: the first unless the second is above it, so that a second that is NaN is passed over.
+// (The library's leaves open which of 0 and -0 it gives.)
 pub fn max(x: f64, y: f64) -> f64
     ensures { result ≡ larger x y }
 {

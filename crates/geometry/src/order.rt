@@ -38,7 +38,7 @@ fn sink(list: &mut [f64], k: usize)
     list[0] = v;
 }
 
-// Sorts in place.
+// Sorts in place, by insertion: value k goes back among those before it. (The library's sorts take no NaN by `total_cmp`.)
 pub fn sort(list: &mut [f64])
     ensures { list.new ≡ sorted list.old }
 {

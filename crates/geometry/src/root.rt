@@ -1,5 +1,6 @@
 // The square root of an f64, correctly rounded, in whole numbers. The quick way is a guess from a table with one step of Newton, and a test that what comes of it is
 // the root; where it is not, a guess and two steps of Heron give the root of 54 binary digits, and one division the other 26.
+// It is the program's own (document 01): the library's is the machine's instruction, whose bits the language takes for given.
 
 ghost use Rattle.std.specs.Prelude.{IfSome, ◌≡◌, ◌+◌, ◌-◌, ◌*◌, ◌/◌, ◌^◌, ◌<◌, ◌≤◌};
 ghost use Rattle.geometry.specs.Root.{sqrt_of};

@@ -1,4 +1,5 @@
-// What a grid call hands out: the surface's poles as the Rust holds them, row after row with u's poles along the rows' numbers, and both directions' knots.
+// What a grid call hands out: the surface's poles as the Rust holds them, row after row with u's poles along the rows' numbers, and both directions'
+// knots. Poles go by their numbers along u and v, since they are handed out transposed.
 ghost use Rattle.std.specs.Prelude.{◌≡◌, ◌+◌, ◌*◌, ◌≤◌, ◌<◌, length};
 ghost use Rattle.places.specs.Places.{laid};
 ghost use Rattle.geometry.specs.Doubles.{at};

@@ -145,6 +145,7 @@ fn add_lines(lines: Lines, metric: Metric, sums: &mut [f64], own: &mut [f64]) ->
 {
     sums.fill(0.0);
     let mut used = 0;
+    // a line is asked for by its number
     for r in 0..lines.lines {
         used = add_line(lines.line(r), metric, used, sums, own);
     }

@@ -1,4 +1,5 @@
-// LU without pivoting of a band matrix, in place, and L U x = b.
+// LU without pivoting of a band matrix, in place, and L U x = b. Rows go by their numbers: each reads the ones before it or behind it by
+// theirs.
 #![tactic(auto)]
 
 pub mod narrow;

@@ -15,6 +15,7 @@ fn goes_last(list: &[f64], v: f64) -> bool
 }
 
 // The first l values of `flat` and all of `fresh`, both sorted, are merged from the back, into the first places of `flat`.
+// Both are walked by their own places, as the Rust walks its one list.
 fn merge_back(flat: &mut [f64], l: usize, fresh: &[f64])
     requires room { l + length fresh.now ≤ length flat.old }
     requires ascending { Ascending (take l flat.old) × Ascending fresh.now }

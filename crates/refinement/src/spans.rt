@@ -13,7 +13,7 @@ fn closes_span(firsts: &[usize], k: usize) -> bool
     firsts.len() <= k + 1 || firsts[k] != firsts[k + 1]
 }
 
-// The ends of the spans take the first poles' places, from the front on. How many there are.
+// The ends of the spans take the first poles' places, from the front on. How many there are. By place: what is read stands at or behind what is written.
 pub fn span_ends(firsts: &mut [usize]) -> usize
     ensures count { result ≡ length (span_ends firsts.old) }
     ensures in_front { firsts.new ≡ headed (span_ends firsts.old) firsts.old }

@@ -59,7 +59,7 @@ impl<'a> Splitting<'a> {
             .count()
     }
 
-    // The knots of the spans that split.
+    // The knots of the spans that split. Spans go by their numbers: whether one splits depends on its neighbours.
     pub fn lay_knots(self, fresh: &mut [f64])
         requires { length fresh.old ≡ count_below (length self.spans.ends.now) (splits self.spans.ends.now self.worsts.now self.tolerance self.threshold) }
         ensures { fresh.new ≡ knots_at self.entry.spans.params.now self.entry.spans.ends.now self.entry.worsts.now self.entry.tolerance self.entry.threshold }

@@ -145,6 +145,7 @@ fn replay_cases(words: &[u64], cases: u64, buffers: &mut Buffers) -> Option<Tall
     let mut start = 1;
     let mut different = 0;
     let mut first = None;
+    // a case starts where the one before it ended
     for k in 0..cases {
         let turn = replay_case(words, start, buffers)?;
         start = turn.next;

@@ -76,7 +76,7 @@ pub fn refused_with(answer: Result<Fit, Refusal>, number: u64) -> bool
     }
 }
 
-// Whether mark, largest deviation and counts are those of the list.
+// Whether mark, largest deviation and counts are those of the list, which has them as words: two types, so no derived equality.
 #[tactic(auto, unfolding(crate::specs::Compared::same_told))]
 fn same_told(fit: Fit, listed: ListedFit) -> bool
     ensures { result ≡ same_told fit listed }

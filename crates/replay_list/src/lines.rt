@@ -2,7 +2,8 @@
 ghost use Rattle.std.specs.Prelude.{◌+◌, ◌≤◌, length};
 ghost use Rattle.replay_list.specs.Text.{ReadAt, ReadAs};
 
-// The word of the line that starts at a place, unless the text is damaged there.
+// The word of the line that starts at a place, unless the text is damaged there. Its digits go by place, each to be multiplied by 16 as often
+// as places follow.
 #[tactic(auto, using(card_text::proofs::NumberLaws::word_room))]
 fn word_at(text: &[u8], start: usize) -> Option<u64>
     requires { start + 17 ≤ length text.now }

@@ -1,4 +1,5 @@
-// Least-squares poles of lines of data (`least_squares`): the normal equations A'A x = A'b, factored once for all the lines.
+// Least-squares poles of lines of data (`least_squares`): the normal equations A'A x = A'b, factored once for all the lines. Rows, values
+// and lines go by their numbers, from which their poles' places follow.
 ghost use Rattle.std.specs.Prelude.{◌≡◌, ℕ, ◌+◌, ◌*◌, ◌≤◌, List, length, Float};
 ghost use Rattle.std.specs.List.{list_all};
 ghost use Rattle.places.specs.Loops.{each};

@@ -1,4 +1,5 @@
-// Interpolating poles of lines of data: a band matrix, its LU factors, and each line solved in its place.
+// Interpolating poles of lines of data: a band matrix, its LU factors, and each line solved in its place. Rows, points
+// and lines go by their numbers.
 ghost use Rattle.std.specs.Prelude.{◌≡◌, ◌+◌, ◌-◌, ◌*◌, ◌≤◌, ◌<◌, ◌^◌, length};
 ghost use Rattle.places.specs.Loops.{each};
 ghost use Rattle.geometry.specs.Points.{points_of};

@@ -1,4 +1,5 @@
-// How far the points lie from a fit read at their own parameters. The squares of the distances stand in the lent places; a root is taken of the largest alone.
+// How far the points lie from a fit read at their own parameters. The squares of the distances stand in the lent places; a root is taken of the largest
+// alone. Parameters, rows and columns go by their numbers: a table and a list of points are read by them.
 ghost use Rattle.std.specs.Prelude.{◌≡◌, ◌*◌, ◌≤◌, ◌<◌, length};
 ghost use Rattle.places.specs.Places.{list_of};
 ghost use Rattle.geometry.specs.Doubles.{at, larger};
