@@ -4,11 +4,11 @@ ghost use Rattle.replay_list.specs.Listed.{listed_at};
 ghost use Rattle.replay.specs.Runs.{compared, capped, needed, Fits, RanOn, TurnAt, TalliedAs};
 
 use bspline::Refusal;
+use checks::Room;
 use checks::given::Ladder;
-use checks::{Room, slices};
+use checks::slices::Output;
 use fitting::Fit;
 use knots::Metric;
-use replay_list::answers::Output;
 use replay_list::{Case, PLACES};
 
 // The most points of a case, and the degree above which none asks for more.
@@ -71,21 +71,10 @@ fn lengths(n: usize, degree: usize, shorter: usize) -> Room
 
 // A case's answer beside the list's.
 #[tactic(auto, unfolding(crate::specs::Runs::compared))]
-fn compare(
-    words: &[u64],
-    case: Case,
-    answer: Result<Fit, Refusal>,
-    out: &slices::Output,
-) -> Option<Turn>
-    ensures { result ≡ compared answer words.now case.entry.answer case.entry.degree out.now.poles.now out.now.flat.now out.now.knots.now out.now.mults.now
+fn compare(words: &[u64], case: Case, answer: Result<Fit, Refusal>, output: &Output) -> Option<Turn>
+    ensures { result ≡ compared answer words.now case.entry.answer case.entry.degree output.now.poles.now output.now.flat.now output.now.knots.now output.now.mults.now
         (listed_at words.now case.entry.answer case.entry.degree) }
 {
-    let output = Output {
-        poles: out.poles,
-        flat: out.flat,
-        knots: out.knots,
-        mults: out.mults,
-    };
     let turn = match replay_list::answers::listed_at(words, case.answer, case.degree)? {
         Ok(fit) => Turn {
             same: replay_list::answers::same_fit(answer, words, fit, output),
@@ -112,7 +101,7 @@ fn run_case(words: &[u64], case: Case, buffers: &mut Buffers) -> Option<Turn>
     let flat = &mut buffers.flat.as_mut_slice()[..room.flat];
     let knots = &mut buffers.knots.as_mut_slice()[..room.knots];
     let mults = &mut buffers.mults.as_mut_slice()[..room.mults];
-    let mut out = slices::Output {
+    let mut output = Output {
         poles,
         flat,
         knots,
@@ -125,8 +114,8 @@ fn run_case(words: &[u64], case: Case, buffers: &mut Buffers) -> Option<Turn>
         degree: case.degree,
         metric,
     };
-    let answer = ladders::fit_ladder(ladder, case.call, &mut out, work, index);
-    compare(words, case, answer, &out)
+    let answer = ladders::fit_ladder(ladder, case.call, &mut output, work, index);
+    compare(words, case, answer, &output)
 }
 
 // Runs the case whose words start at a place.

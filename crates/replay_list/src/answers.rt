@@ -6,6 +6,7 @@ ghost use Rattle.replay_list.specs.Listed.{listed_at, Within, Held};
 
 use crate::values::same_words;
 use bspline::Refusal;
+use checks::slices::Output;
 use fitting::Fit;
 
 // A fit as the list has it. Its values start at `values`, and after them stands the next case.
@@ -19,15 +20,6 @@ pub struct ListedFit {
     pub unreadable: usize,
     pub values: usize,
     pub next: usize,
-}
-
-// The slices that a call hands its values out in.
-#[derive(Clone, Copy)]
-pub struct Output<'a> {
-    pub poles: &'a [f64],
-    pub flat: &'a [f64],
-    pub knots: &'a [f64],
-    pub mults: &'a [u32],
 }
 
 // The answer whose words start at a place, of a call of a degree: a fit, or the number of a refusal.
@@ -90,9 +82,9 @@ fn same_told(fit: Fit, listed: ListedFit) -> bool
 
 // Whether the values handed out are those of the list.
 #[tactic(auto, unfolding(crate::specs::Compared::same_values))]
-fn same_values(words: &[u64], listed: ListedFit, output: Output) -> bool
+fn same_values(words: &[u64], listed: ListedFit, output: &Output) -> bool
     requires { Within (length words.now) listed }
-    ensures { result ≡ same_values words.now listed output.entry.poles.now output.entry.flat.now output.entry.knots.now output.entry.mults.now }
+    ensures { result ≡ same_values words.now listed output.now.poles.now output.now.flat.now output.now.knots.now output.now.mults.now }
 {
     let at_knots = listed.values + (listed.poles + listed.degree + 1);
     let at_mults = at_knots + listed.knots;
@@ -110,10 +102,10 @@ pub fn same_fit(
     answer: Result<Fit, Refusal>,
     words: &[u64],
     listed: ListedFit,
-    output: Output,
+    output: &Output,
 ) -> bool
     requires { Within (length words.now) listed }
-    ensures { result ≡ same_fit words.now listed output.entry.poles.now output.entry.flat.now output.entry.knots.now output.entry.mults.now answer }
+    ensures { result ≡ same_fit words.now listed output.now.poles.now output.now.flat.now output.now.knots.now output.now.mults.now answer }
 {
     match answer {
         Ok(fit) => same_told(fit, listed) && same_values(words, listed, output),
