@@ -149,7 +149,7 @@ pub extern "C" fn pieces_row_deviations(
     squares: &mut [f64],
     most: &mut [f64],
 ) -> usize
-    requires table { TableBy degree m firsts.old values.old × (rows ≤ 64) }
+    requires table { TableBy degree m firsts.old values.old }
     requires room { (3 * (rows * m) ≤ length poles.now) × (length squares.old ≡ length firsts.old) × (3 * (rows * length firsts.old) ≤ length points.now) × (1 ≤ length most.old) }
     ensures value { result ≡ (measured (row_distances one rows (table_by degree firsts.old values.old) m poles.now points.now)).unreadable }
     ensures most_after { most.new ≡ set most.old 0 (measured (row_distances one rows (table_by degree firsts.old values.old) m poles.now points.now)).largest }
@@ -185,7 +185,7 @@ pub extern "C" fn pieces_grid_deviations(
     squares: &mut [f64],
     most: &mut [f64],
 ) -> usize
-    requires tables { TableBy pu mu fu.old wu.old × TableBy pv mv fv.old wv.old × (mv ≤ 64) }
+    requires tables { TableBy pu mu fu.old wu.old × TableBy pv mv fv.old wv.old }
     requires given { (3 * (mv * mu) ≤ length poles.now) × (3 * (length fu.old * length fv.old) ≤ length points.now) }
     requires room { (length curve.old ≡ 3 * mv) × (length squares.old ≡ length fu.old) × (1 ≤ length most.old) }
     ensures value { result ≡ (measured (grid_distances one (table_by pu fu.old wu.old) (table_by pv fv.old wv.old) mv (transposed mv mu poles.now) points.now)).unreadable }

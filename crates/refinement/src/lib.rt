@@ -6,9 +6,9 @@ ghost use Rattle.geometry.specs.Root.{roots_of};
 ghost use Rattle.refinement.specs.Refinement.{span_ends, span_worsts, refined_knots};
 ghost use Rattle.refinement.specs.Round.{round_knots, round_of, headed, flat_after, fresh_after};
 
-pub mod merge;
-pub mod spans;
-pub mod splits;
+mod merge;
+mod spans;
+mod splits;
 
 use spans::Spans;
 use splits::Splitting;

@@ -59,7 +59,7 @@ fn put_line(line: Line, poles: &mut [f64])
 
 // A line's poles, with the factored matrix of half-width h: the end poles are the end points.
 #[tactic(auto, unfolding(crate::specs::Interpolation::line_through))]
-pub fn interpolated_line(line: Line, h: usize, band: &[f64], poles: &mut [f64])
+fn interpolated_line(line: Line, h: usize, band: &[f64], poles: &mut [f64])
     requires { (h ≤ 25) × (line.count * (2 * h + 1) ≤ length band.now) × (length poles.old ≡ 3 * line.count) }
     ensures { poles.new ≡ line_through h line.entry.count band.now (on_line line.entry) }
 {

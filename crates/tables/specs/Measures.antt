@@ -58,7 +58,6 @@ pub record HasLadder (t : Table) (poles squares points : ℕ) : Type 0 where
 -- the same of a grid's rows
 pub record HasRows (t : Table) (rows poles squares points : ℕ) : Type 0 where
   pub table : HasTable t
-  pub few : rows ≤ 64
   pub for_poles : 3 * (rows * t.poles) ≤ poles
   pub for_squares : squares ≡ length t.firsts.now
   pub for_points : 3 * (rows * length t.firsts.now) ≤ points
