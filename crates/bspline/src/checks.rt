@@ -61,7 +61,7 @@ fn not_finite(knots: &[f64]) -> bool
 
 impl<'a> Curve<'a> {
     // 7, 8, 2, 12: by the number of the poles' places, the degree, and the numbers of knots and multiplicities.
-    pub fn check_sizes(self) -> Result<(), Refusal>
+    pub(crate) fn check_sizes(self) -> Result<(), Refusal>
         ensures verdict { result ≡ sizes_verdict (length self.entry.poles.now) self.entry.degree (length self.entry.knots.now) (length self.entry.mults.now) }
         ensures sized { OnOk result (Sized (length self.entry.poles.now) self.entry.degree (length self.entry.knots.now) (length self.entry.mults.now)) }
     {
@@ -81,7 +81,7 @@ impl<'a> Curve<'a> {
     }
 
     // 13, 14, 6. With 2 and 12 before them these are the Rust's `validate_direction`.
-    pub fn check_knots(self) -> Result<(), Refusal>
+    pub(crate) fn check_knots(self) -> Result<(), Refusal>
         requires { Sized (length self.poles.now) self.degree (length self.knots.now) (length self.mults.now) }
         ensures verdict { result ≡ knots_verdict (length self.entry.poles.now / 3) self.entry.degree self.entry.knots.now self.entry.mults.now }
         ensures counted { OnOk result (Counted (length self.entry.poles.now / 3) self.entry.degree self.entry.knots.now self.entry.mults.now) }
@@ -99,7 +99,7 @@ impl<'a> Curve<'a> {
     }
 
     // 15, with the curve's flat knots.
-    pub fn check_readable(self, flat: &[f64], u: f64) -> Result<(), Refusal>
+    pub(crate) fn check_readable(self, flat: &[f64], u: f64) -> Result<(), Refusal>
         requires sized { Sized (length self.poles.now) self.degree (length self.knots.now) (length self.mults.now) }
         requires counted { Counted (length self.poles.now / 3) self.degree self.knots.now self.mults.now }
         requires many { length flat.now ≡ length self.poles.now / 3 + self.degree + 1 }

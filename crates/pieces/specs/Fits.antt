@@ -8,10 +8,6 @@ table_by degree firsts values = record { degree = degree; firsts = firsts; value
 
 -- at least the knots of a single piece, and a place for each parameter and each value
 pub record FillsBy (degree : ℕ) (flat params : List Float) (firsts : List ℕ) (values : List Float) : Type 0 where
-  pub low : 1 ≤ degree
-  pub high : degree ≤ 25
-  pub some : 2 ≤ length params
-  pub few : length params ≤ 1024
   pub knots : 2 * degree + 2 ≤ length flat
   pub for_firsts : length firsts ≡ length params
   pub for_values : length values ≡ length params * (degree + 1)

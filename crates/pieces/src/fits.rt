@@ -12,7 +12,7 @@ ghost use Rattle.solving.specs.Interpolation.{interpolation};
 ghost use Rattle.pieces.specs.Fits.{table_by, FillsBy, TableBy, LinesBy};
 
 use knots::lines::Lines;
-use tables::basis_table::Table;
+use tables::basis_table::{Table, fill_table};
 use tables::deviations::{grid_deviations, ladder_deviations, row_deviations};
 
 #[unsafe(no_mangle)]
@@ -27,13 +27,7 @@ pub extern "C" fn pieces_fill_table(
     ensures firsts_after { firsts.new ≡ (basis_table flat.now degree params.now).firsts }
     ensures values_after { values.new ≡ (basis_table flat.now degree params.now).values }
 {
-    let mut table = Table {
-        degree,
-        poles: 0,
-        firsts,
-        values,
-    };
-    table.fill(flat, params);
+    fill_table(flat, degree, params, firsts, values);
 }
 
 #[unsafe(no_mangle)]

@@ -16,6 +16,17 @@ pub record HasTable (t : Table) : Type 0 where
   pub long : length t.values.now ≡ length t.firsts.now * (t.degree + 1)
   pub poles : (k : ℕ) → k < length t.firsts.now → get_or t.firsts.now k 0 + t.degree < t.poles
 
+-- row k, which has its values
+pub record HasRow (t : Table) (k : ℕ) : Type 0 where
+  pub high : t.degree ≤ 25
+  pub row : k < length t.firsts.now
+  pub long : length t.values.now ≡ length t.firsts.now * (t.degree + 1)
+
+-- and its poles, from pole `start` on, among so many places
+pub record Readable (t : Table) (start k places : ℕ) : Type 0 where
+  pub has : HasRow t k
+  pub poles : 3 * (start + get_or t.firsts.now k 0 + (t.degree + 1)) ≤ places
+
 -- What the making of a table asks: at least the knots of a single piece, and a place for each parameter and each value.
 pub record FillsTable (t : Table) (flat params : List Float) : Type 0 where
   pub low : 1 ≤ t.degree

@@ -5,8 +5,8 @@ ghost use Rattle.tables.specs.BasisTable.{basis_table};
 use crate::rows::BasisRows;
 use geometry::Point;
 
-// The rows of the table, one a parameter: the search for the span of a parameter goes on from that of the one before.
-fn fill_rows(flat: &[f64], degree: usize, params: &[f64], firsts: &mut [usize], values: &mut [f64])
+// The rows of a table, one a parameter, in their places: the search for the span of a parameter goes on from that of the one before.
+pub fn fill_table(flat: &[f64], degree: usize, params: &[f64], firsts: &mut [usize], values: &mut [f64])
     requires { (2 * degree + 2 ≤ length flat.now) × (length firsts.old ≡ length params.now) × (length values.old ≡ length params.now * (degree + 1)) }
     ensures firsts_after { firsts.new ≡ (basis_table flat.now degree params.now).firsts }
     ensures values_after { values.new ≡ (basis_table flat.now degree params.now).values }
@@ -42,7 +42,7 @@ impl Table<'_> {
     ghost use Rattle.std.specs.Prelude.{◌≡◌, ◌+◌, ◌*◌, ◌≤◌, ◌<◌, length, get_or};
     ghost use Rattle.places.specs.Regions.{part};
     ghost use Rattle.tables.specs.BasisTable.{table_point};
-    ghost use Rattle.tables.specs.Layout.{table_of, HasTable, FillsTable, Filled};
+    ghost use Rattle.tables.specs.Layout.{table_of, HasRow, Readable, FillsTable, Filled};
 
     // The table of these flat knots at these parameters, in its place.
     pub fn fill(&mut self, flat: &[f64], params: &[f64])
@@ -52,7 +52,7 @@ impl Table<'_> {
     {
         let degree = self.degree;
         self.poles = flat.len() - degree - 1;
-        fill_rows(flat, degree, params, self.firsts, self.values);
+        fill_table(flat, degree, params, self.firsts, self.values);
     }
 
     // How many parameters it has.
@@ -63,7 +63,7 @@ impl Table<'_> {
     }
 
     pub fn row(&self, k: usize) -> Row<'_>
-        requires { HasTable self.now × (k < length self.now.firsts.now) }
+        requires { HasRow self.now k }
         ensures place { (result.degree ≡ self.now.degree) × (result.first ≡ get_or self.now.firsts.now k 0) }
         ensures values { result.values.now ≡ part (k * (self.now.degree + 1)) (k * (self.now.degree + 1) + (self.now.degree + 1)) self.now.values.now }
     {
@@ -77,7 +77,7 @@ impl Table<'_> {
 
     // The point at parameter k of the curve whose poles stand in the list from pole `start` on (`BasisTable::point`).
     pub fn point(&self, poles: &[f64], start: usize, k: usize) -> Point
-        requires { HasTable self.now × (k < length self.now.firsts.now) × (3 * (start + self.now.poles) ≤ length poles.now) }
+        requires { Readable self.now start k (length poles.now) }
         ensures { result ≡ table_point (table_of self.now) poles.now start k }
     {
         let row = self.row(k);

@@ -25,6 +25,7 @@ struct Beside<'a, 'b> {
 
 impl Beside<'_, '_> {
     // The square of the distance at parameter k.
+    #[tactic(auto, using(crate::proofs::ReadingLaws::readable))]
     fn square(&self, k: usize) -> f64
         requires { HasBeside self.now × (k < length self.now.table.now.firsts.now) }
         ensures { result ≡ square_beside self.now k }
@@ -130,7 +131,7 @@ pub fn row_deviations(
 }
 
 // The poles of the v curve at u parameter i: column l's poles stand from pole l * u.poles on.
-#[tactic(auto, using(crate::proofs::PointsLaws::filling))]
+#[tactic(auto, using(crate::proofs::PointsLaws::filling, crate::proofs::ReadingLaws::readable))]
 fn curve_poles(u: &Table, poles: &[f64], columns: usize, i: usize, curve: &mut [f64])
     requires { HasColumns u.now columns (length poles.now) × (i < length u.now.firsts.now) × (length curve.old ≡ 3 * columns) }
     ensures { curve.new ≡ curve_of (table_of u.now) columns u.now.poles poles.now i }

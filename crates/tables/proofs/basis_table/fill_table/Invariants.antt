@@ -1,7 +1,7 @@
 -- The invariant: the first k rows stand in their places, and the search stands at the span of the parameter before. Assumes nothing.
 use mathlib.Core.Path.{◌≡◌}
 use Rattle.tables.proofs.TableLaws.{TableTo}
-use Rattle.tables.proofs.basis_table.fill_rows.Given as goal
+use Rattle.tables.proofs.basis_table.fill_table.Given as goal
 
 abbrev pub invariant-loop-k : goal.invariant-loop-k
 invariant-loop-k l =

@@ -4,7 +4,7 @@ use native.Mathlib.Omega.{arith}
 use mathlib.Core.Path.{◌≡◌, ◌∙◌}
 use Rattle.places.proofs.PlaceLaws.{row_inside}
 use Rattle.tables.proofs.TableLaws.{table-start, table-next, table_end}
-use Rattle.tables.proofs.basis_table.fill_rows.Goals as goal
+use Rattle.tables.proofs.basis_table.fill_table.Goals as goal
 
 pub loop-k-init : goal.loop-k-init
 loop-k-init c =
