@@ -1,5 +1,5 @@
 // Single fits of a direction: least squares on given or on spread knots, and interpolation.
-ghost use Rattle.std.specs.Prelude.{◌≤◌, ◌<◌, length};
+ghost use Rattle.std.specs.Prelude.{◌≡◌, ◌≤◌, ◌<◌, length};
 ghost use Rattle.fitting.specs.Jobs.{HasRegions, HasKnots, Attempts, AttemptsSpread, PassesThrough};
 
 use crate::flat::FlatKnots;
@@ -90,7 +90,9 @@ impl Job<'_, '_, '_, '_> {
 // Least squares on the flat knots that stand there: the fit in its place, or none.
 pub fn attempt(job: Job, at: &mut Regions) -> Option<Measured>
     requires { HasRegions job at.old × HasKnots job at.old.knots.count }
-    ensures { Attempts job.entry at.old at.new result }
+    ensures tried { Attempts job.entry at.old at.new result }
+    ensures knots_stay { at.new.knots.places.now ≡ at.old.knots.places.now }
+    ensures fresh_stays { at.new.fresh.now ≡ at.old.fresh.now }
 {
     at.fit.fill(&at.knots, job.params);
     if !at.fit.solve(job.lines, at.band) {
@@ -103,7 +105,8 @@ pub fn attempt(job: Job, at: &mut Regions) -> Option<Measured>
 #[tactic(auto, unfolding(crate::specs::Within::fit_on_spread, crate::specs::Jobs::direction_of))]
 pub fn attempt_spread(job: Job, at: &mut Regions, m: usize) -> Option<Measured>
     requires { HasRegions job at.old × (job.degree < m) × (m ≤ length job.params.now) }
-    ensures { AttemptsSpread job.entry m at.new result }
+    ensures tried { AttemptsSpread job.entry m at.new result }
+    ensures fresh_stays { at.new.fresh.now ≡ at.old.fresh.now }
 {
     at.knots.lay_spread(job.params, m, job.degree);
     attempt(job, at)
@@ -112,7 +115,8 @@ pub fn attempt_spread(job: Job, at: &mut Regions, m: usize) -> Option<Measured>
 // Interpolation on averaged knots.
 pub fn pass_through(job: Job, at: &mut Regions) -> Measured
     requires { HasRegions job at.old }
-    ensures { PassesThrough job.entry at.new result }
+    ensures passed { PassesThrough job.entry at.new result }
+    ensures fresh_stays { at.new.fresh.now ≡ at.old.fresh.now }
 {
     at.knots.lay_averaged(job.params, job.degree);
     at.fit.fill(&at.knots, job.params);

@@ -1,5 +1,5 @@
 // Pole counts on spread knots: document 01's test of a count, and the search for the fewest poles that pass it.
-ghost use Rattle.std.specs.Prelude.{◌≤◌, ◌<◌, length};
+ghost use Rattle.std.specs.Prelude.{◌≡◌, ◌≤◌, ◌<◌, length};
 ghost use Rattle.fitting.specs.Jobs.{HasRegions, Tested, FewestFound, SpreadsBelow};
 
 use crate::attempts::attempt_spread;
@@ -12,7 +12,8 @@ use tables::Measured;
 #[tactic(auto, using(crate::proofs::CountLaws::tested_unfitted, crate::proofs::CountLaws::tested_unread, crate::proofs::CountLaws::tested_ladder, crate::proofs::CountLaws::tested_grid))]
 pub fn passes(job: Job, at: &mut Regions, tolerance: f64, m: usize) -> bool
     requires { HasRegions job at.old × (job.degree < m) × (m ≤ length job.params.now) }
-    ensures { Tested job.entry tolerance m at.new result }
+    ensures tested { Tested job.entry tolerance m at.new result }
+    ensures fresh_stays { at.new.fresh.now ≡ at.old.fresh.now }
 {
     let Some(x) = attempt_spread(job, at, m) else {
         return false;
@@ -33,7 +34,8 @@ pub fn fit_with_fewest_poles(
     last: usize,
 ) -> Option<usize>
     requires { HasRegions job at.old × (job.degree < last) × (last ≤ length job.params.now) }
-    ensures { FewestFound job.entry tolerance last at.new result }
+    ensures found { FewestFound job.entry tolerance last at.new result }
+    ensures fresh_stays { at.new.fresh.now ≡ at.old.fresh.now }
 {
     // no iterator: what comes next follows from what the last try is told to have come to
     let mut s = Search::new(job.degree, last);

@@ -6,8 +6,8 @@ use Rattle.fitting.proofs.attempts.attempt.Goals as goal
 pub solve-requires : goal.solve-requires
 solve-requires c = has_lines _ _ c.requires.0 c.requires.1 _ c.fill.ensures.filled c.fill.ensures.poles_after
 
-pub returns-then-not-solve : goal.returns-then-not-solve
-returns-then-not-solve c =
+pub returns-then-not-solve-clause-tried : goal.returns-then-not-solve-clause-tried
+returns-then-not-solve-clause-tried c =
     let f = c.fill in
     unfitted _ _ c.requires.0 c.requires.1 f.new.self f.ensures.filled f.ensures.poles_after c.solve.new.self c.if-not-solve.ensures _ (search rules)
 
@@ -17,7 +17,7 @@ measure-requires c =
     let s = c.solve.ensures in
     measurable _ _ c.requires.0 c.requires.1 f.new.self f.ensures.filled f.ensures.poles_after c.solve.new.self s.table s.long
 
-pub returns : goal.returns
-returns c =
+pub returns-clause-tried : goal.returns-clause-tried
+returns-clause-tried c =
     let f = c.fill in
     fitting _ _ c.requires.0 c.requires.1 f.new.self f.ensures.filled f.ensures.poles_after c.solve.new.self c.if-not-solve.ensures _ (search rules) _ c.measure.ensures

@@ -22,8 +22,8 @@ measure-requires c =
     let p = c.pass in
     through_measurable c.args.job c.args.at.now c.requires k.new.self k.ensures f.new.self f.ensures.filled f.ensures.poles_after p.new.self p.ensures
 
-pub returns : goal.returns
-returns c =
+pub returns-clause-passed : goal.returns-clause-passed
+returns-clause-passed c =
     let k = c.lay_averaged in
     let f = c.fill in
     let p = c.pass in
