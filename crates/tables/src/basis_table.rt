@@ -6,7 +6,13 @@ use crate::rows::BasisRows;
 use geometry::Point;
 
 // The rows of a table, one a parameter, in their places: the search for the span of a parameter goes on from that of the one before.
-pub fn fill_table(flat: &[f64], degree: usize, params: &[f64], firsts: &mut [usize], values: &mut [f64])
+pub fn fill_table(
+    flat: &[f64],
+    degree: usize,
+    params: &[f64],
+    firsts: &mut [usize],
+    values: &mut [f64],
+)
     requires { (2 * degree + 2 ≤ length flat.now) × (length firsts.old ≡ length params.now) × (length values.old ≡ length params.now * (degree + 1)) }
     ensures firsts_after { firsts.new ≡ (basis_table flat.now degree params.now).firsts }
     ensures values_after { values.new ≡ (basis_table flat.now degree params.now).values }
