@@ -43,12 +43,10 @@ pub fn compare(count: u64, seed: u64) -> u64 {
                 (true, true)
             };
             none += !answers.0 as u64;
-            let mut poles = right.clone();
-            let mut work = mine.clone();
-            work.extend(ours::places(&right));
+            let (mut poles, mut places) = (right.clone(), ours::places(&right));
             if symmetric { pieces::substitute_symmetric_band(&theirs, h, &mut poles) } else { pieces::substitute_band(&theirs, h, &mut poles) }
-            ours::substitute(symmetric, &mut work, n * w, h, n);
-            let same = answers.0 == answers.1 && all_same(&theirs, &mine) && all_same(&mine, &work[..n * w]) && all_same(&ours::places(&poles), &work[n * w..]);
+            ours::substitute(symmetric, &mine, &mut places, h, n);
+            let same = answers.0 == answers.1 && all_same(&theirs, &mine) && all_same(&ours::places(&poles), &places);
             if !same {
                 different += 1;
                 if different < 5 {
@@ -83,9 +81,8 @@ pub fn bench() {
             }
             ratio(if symmetric { "Cholesky" } else { "LU" }, theirs, mine);
             let mut poles = right.clone();
-            let mut work = a.clone();
-            work.extend(ours::places(&right));
             let places = ours::places(&right);
+            let mut solved = places.clone();
             let (mut theirs, mut mine) = (f64::INFINITY, f64::INFINITY);
             for _ in 0..60 {
                 theirs = theirs.min(least_seconds(3, || {
@@ -93,8 +90,8 @@ pub fn bench() {
                     if symmetric { pieces::substitute_symmetric_band(&a, h, black_box(&mut poles)) } else { pieces::substitute_band(&a, h, black_box(&mut poles)) }
                 }));
                 mine = mine.min(least_seconds(3, || {
-                    work[n * w..].copy_from_slice(&places);
-                    ours::substitute(symmetric, black_box(&mut work), n * w, h, n);
+                    solved.copy_from_slice(&places);
+                    ours::substitute(symmetric, &a, black_box(&mut solved), h, n);
                 }));
             }
             ratio(if symmetric { "Cholesky's substitution" } else { "LU's substitution" }, theirs, mine);

@@ -12,13 +12,13 @@ unsafe extern "C" {
     fn pieces_shared_parameters(
         points: *const f64, len: usize, lines: usize, pitch: usize, n: usize, stride: usize, centripetal: bool, out: *mut f64, out_len: usize,
     ) -> bool;
-    fn pieces_averaged_knots(work: *mut f64, len: usize, params: usize, n: usize, degree: usize, flat: usize);
-    fn pieces_approximation_knots(work: *mut f64, len: usize, params: usize, n: usize, poles: usize, degree: usize, flat: usize);
+    fn pieces_averaged_knots(params: *const f64, params_len: usize, degree: usize, flat: *mut f64, flat_len: usize);
+    fn pieces_approximation_knots(params: *const f64, params_len: usize, poles: usize, degree: usize, flat: *mut f64, flat_len: usize);
     fn pieces_compress_knots(flat: *const f64, len: usize, knots: *mut f64, knots_len: usize, mults: *mut u32, mults_len: usize) -> usize;
     fn pieces_factor_symmetric_band(lower: *mut f64, len: usize, h: usize, n: usize, relative: f64) -> bool;
-    fn pieces_substitute_symmetric_band(work: *mut f64, len: usize, l0: usize, l1: usize, p0: usize, p1: usize, h: usize, n: usize);
+    fn pieces_substitute_symmetric_band(lower: *const f64, lower_len: usize, poles: *mut f64, poles_len: usize, h: usize, n: usize);
     fn pieces_factor_band(band: *mut f64, len: usize, h: usize, n: usize);
-    fn pieces_substitute_band(work: *mut f64, len: usize, l0: usize, l1: usize, p0: usize, p1: usize, h: usize, n: usize);
+    fn pieces_substitute_band(band: *const f64, band_len: usize, poles: *mut f64, poles_len: usize, h: usize, n: usize);
     fn pieces_fill_table(
         flat: *const f64, flat_len: usize, degree: usize, params: *const f64, params_len: usize, firsts: *mut usize, firsts_len: usize,
         values: *mut f64, values_len: usize,
@@ -93,23 +93,26 @@ pub fn shared_parameters(points: &[f64], lines: usize, pitch: usize, n: usize, s
     found.then_some(out)
 }
 
-fn knots(params: &[f64], poles: usize, degree: usize, fill: impl Fn(&mut [f64], usize)) -> Vec<f64> {
-    let n = params.len();
-    assert!(n <= 1024 && 1 <= degree && degree <= 25 && degree < poles && poles <= n);
-    let mut work = params.to_vec();
-    work.resize(n + 2 + poles + degree + 1 + 1, GUARD);
-    fill(&mut work, n + 2);
-    assert!(work[..n].iter().zip(params).all(|(a, b)| a.to_bits() == b.to_bits()) && work[n] == GUARD && work[n + 1] == GUARD && *work.last().unwrap() == GUARD);
-    work[n + 2..n + 2 + poles + degree + 1].to_vec()
+/// The flat knots that `fill` puts between two guards, from a copy of the parameters that must come back as it was.
+fn knots(params: &[f64], poles: usize, degree: usize, fill: impl Fn(&[f64], &mut [f64])) -> Vec<f64> {
+    assert!(params.len() <= 1024 && 1 <= degree && degree <= 25 && degree < poles && poles <= params.len());
+    let (copy, end) = (params.to_vec(), poles + degree + 2);
+    let mut places = vec![GUARD; end + 1];
+    fill(&copy, &mut places[1..end]);
+    assert!(copy.iter().zip(params).all(|(a, b)| a.to_bits() == b.to_bits()) && places[0] == GUARD && places[end] == GUARD);
+    places[1..end].to_vec()
 }
 
 pub fn averaged_knots(params: &[f64], degree: usize) -> Vec<f64> {
-    let n = params.len();
-    knots(params, n, degree, |work, flat| unsafe { pieces_averaged_knots(work.as_mut_ptr(), work.len(), 0, n, degree, flat) })
+    knots(params, params.len(), degree, |params, flat| unsafe {
+        pieces_averaged_knots(params.as_ptr(), params.len(), degree, flat.as_mut_ptr(), flat.len())
+    })
 }
 
 pub fn approximation_knots(params: &[f64], poles: usize, degree: usize) -> Vec<f64> {
-    knots(params, poles, degree, |work, flat| unsafe { pieces_approximation_knots(work.as_mut_ptr(), work.len(), 0, params.len(), poles, degree, flat) })
+    knots(params, poles, degree, |params, flat| unsafe {
+        pieces_approximation_knots(params.as_ptr(), params.len(), poles, degree, flat.as_mut_ptr(), flat.len())
+    })
 }
 
 pub fn compress_knots(flat: &[f64]) -> (Vec<f64>, Vec<u32>) {
@@ -133,13 +136,16 @@ pub fn factor_band(band: &mut [f64], h: usize, n: usize) {
     unsafe { pieces_factor_band(band.as_mut_ptr(), band.len(), h, n) }
 }
 
-/// Solves in place, with the factors in the first `factors` places of `work` and the points in the 3 n after them.
-pub fn substitute(symmetric: bool, work: &mut [f64], factors: usize, h: usize, n: usize) {
+/// Solves in place for n points.
+pub fn substitute(symmetric: bool, factors: &[f64], poles: &mut [f64], h: usize, n: usize) {
     let w = if symmetric { h + 1 } else { 2 * h + 1 };
-    assert!(h <= 25 && n * w <= factors && factors + 3 * n <= work.len());
-    let (a, len, end) = (work.as_mut_ptr(), work.len(), factors + 3 * n);
+    assert!(h <= 25 && n * w <= factors.len() && 3 * n <= poles.len());
     unsafe {
-        if symmetric { pieces_substitute_symmetric_band(a, len, 0, factors, factors, end, h, n) } else { pieces_substitute_band(a, len, 0, factors, factors, end, h, n) }
+        if symmetric {
+            pieces_substitute_symmetric_band(factors.as_ptr(), factors.len(), poles.as_mut_ptr(), poles.len(), h, n)
+        } else {
+            pieces_substitute_band(factors.as_ptr(), factors.len(), poles.as_mut_ptr(), poles.len(), h, n)
+        }
     }
 }
 

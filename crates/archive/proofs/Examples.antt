@@ -7,7 +7,7 @@ use lib.ListN.{length}
 use lib.Ieee.{Float, le, lt, eq, is_nan, of_bits, binary64}
 use Rattle.places.specs.Places.{list_of, joined, some_below, count_below}
 use Rattle.geometry.specs.Doubles.{is_finite}
-use Rattle.bspline.specs.Refusals.{pass}
+use Rattle.bspline.specs.Refusals.{pass, degree_verdict}
 use Rattle.bspline.specs.Reader.{flat_knots, too_large, sizes_verdict, knots_verdict, not_readable, reader_verdict, curve_point, Reading}
 use Rattle.bspline.proofs.CheckLaws.{reads}
 use Rattle.knots.specs.declared.Metric.{Metric}
@@ -33,7 +33,7 @@ Taken poles u = reader_verdict poles 2 (list_of (distinct_knots averaged) (knot_
 
 -- at 0, 0.25, 0.5 and 1
 pub averaged_taken : (poles : List Float) → length poles ≡ 12 → Taken poles (bits 0) × Taken poles (bits 0x3fd0_0000_0000_0000) × Taken poles (bits 0x3fe0_0000_0000_0000) × Taken poles (bits 0x3ff0_0000_0000_0000)
-unfolding le lt eq is_nan of_bits list_of joined some_below count_below is_finite flat_knots too_large sizes_verdict knots_verdict not_readable reader_verdict equal_from run_length run_start distinct_knots knot_at multiplicity_at
+unfolding le lt eq is_nan of_bits list_of joined some_below count_below is_finite flat_knots too_large sizes_verdict degree_verdict knots_verdict not_readable reader_verdict equal_from run_length run_start distinct_knots knot_at multiplicity_at
 averaged_taken poles e = (rw e, rw e, rw e, rw e)
 
 -- a call's curve over these knots, read at a point's own parameter: it is taken at 0, so the theorem says what it gives

@@ -7,19 +7,19 @@ use Prim.Native.Nat.{ℕ, zero, suc, ◌+◌, ◌-◌, ◌*◌, ◌<◌, ◌≤�
 use native.Mathlib.Numerals.{add-one}
 use native.Mathlib.Omega.{arith}
 use lib.Dec.{T}
-use lib.ListN.{length, replicate}
-use lib.Ieee.{Float, nan, lt, le, eq, is_nan, of_bits}
-use Rattle.places.specs.Places.{list_of, joined}
-use Rattle.places.proofs.PlaceLaws.{length-list_of, list_of-at, joined_same}
+use lib.ListN.{length}
+use lib.Ieee.{Float, lt, le, eq, is_nan, of_bits}
+use Rattle.places.specs.Places.{list_of}
 use Rattle.geometry.specs.Doubles.{nought, one, at}
 use Rattle.geometry.proofs.ExactLaws.{equal_same}
 use Rattle.geometry.proofs.FloatOrder.{holds, test, lt-or-le, lt-le, le_lt_trans, le_self, le_transitive, refute}
 use Rattle.bspline.specs.Spans.{wide, NeverFalls}
-use Rattle.bspline.specs.Reader.{multiplicity, flat_knots}
+use Rattle.bspline.specs.Reader.{flat_knots}
 use Rattle.bspline.proofs.SpanLaws.{begins-down}
 use Rattle.knots.specs.Knots.{run_length, run_start, distinct_knots, knot_at, multiplicity_at}
+use Rattle.knots.proofs.CompressedLaws.{same_runs, read_back}
 use Rattle.knots.proofs.KnotLaws.{Ends}
-use Rattle.knots.proofs.RunLaws.{run-least, start-more, run_equal, runs_end, run, runs-back, run_from}
+use Rattle.knots.proofs.RunLaws.{run-least, start-more, run_equal, runs_end, run_from}
 
 -- ---- knots that the reader takes: the first d + 1 flat knots are 0 and the last d + 1 are 1, distinct knots rise, and neither end stands more than d + 1 times
 
@@ -52,14 +52,7 @@ module _ (flat : List Float) (d : ℕ) (ends : Ends d flat)
       (run_equal flat (run_start flat (suc j)) r l)
 
   pub same-flat : flat_knots (list_of (distinct_knots flat) (knot_at flat)) (list_of (distinct_knots flat) (multiplicity_at flat)) ≡ flat
-  unfolding flat_knots
-  same-flat =
-      let D = distinct_knots flat in
-      let knots = list_of D (knot_at flat) in
-      let mults = list_of D (multiplicity_at flat) in
-      ap (λ (n : ℕ). joined n (λ k. replicate (multiplicity mults k) (at knots k))) (length-list_of D (knot_at flat))
-      ∙ joined_same D _ (run flat run-same) (λ k h. rw (list_of-at D (multiplicity_at flat) k 0 h, list_of-at D (knot_at flat) k nan h))
-      ∙ runs-back flat run-same
+  same-flat = read_back flat (distinct_knots flat) (knot_at flat) (multiplicity_at flat) (same_runs flat run-same)
 
   -- the first run starts the list and is of zeros, the last ends it and is of ones
   abbrev s : ℕ

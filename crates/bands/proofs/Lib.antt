@@ -1,3 +1,3 @@
 -- Laws that belong to no one function.
 pub mod Rows
-pub mod Lent
+pub mod InPlace

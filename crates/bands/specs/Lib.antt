@@ -2,3 +2,4 @@
 pub mod Bands
 pub mod Shapes
 pub mod SolvedRow
+pub mod Sums

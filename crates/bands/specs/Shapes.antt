@@ -1,5 +1,5 @@
 -- What the functions require of their slices. Definitions only.
-use Rattle.std.specs.Prelude.{List, ℕ, ◌+◌, ◌-◌, ◌*◌, ◌≤◌, ◌<◌, length, Float}
+use Rattle.std.specs.Prelude.{List, ℕ, ◌+◌, ◌*◌, ◌≤◌, ◌<◌, length, Float}
 
 -- row i lies within the list
 abbrev pub HasRow : ℕ → List Float → ℕ → Type 0
@@ -26,17 +26,3 @@ pub record HasSystem (w h n : ℕ) (factors poles : List Float) : Type 0 where
   pub width : h ≤ 25
   pub rows : n * w ≤ length factors
   pub places : 3 * n ≤ length poles
-
--- the factors at l0..l1 and the points at p0..p1 of a work slice
-pub record Regions (l0 l1 p0 p1 : ℕ) (work : List Float) : Type 0 where
-  pub factors : l0 ≤ l1
-  pub apart : l1 ≤ p0
-  pub points : p0 ≤ p1
-  pub fits : p1 ≤ length work
-
--- a system in these regions: n rows of w places and n points
-pub record Solvable (l0 l1 p0 p1 w h n : ℕ) (work : List Float) : Type 0 where
-  pub regions : Regions l0 l1 p0 p1 work
-  pub width : h ≤ 25
-  pub rows : n * w ≤ l1 - l0
-  pub places : 3 * n ≤ p1 - p0

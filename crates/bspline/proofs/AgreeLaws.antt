@@ -15,7 +15,7 @@ use Rattle.bspline.proofs.SpanLaws.{span_from_in, span_before-next, span_before-
 use Rattle.bspline.proofs.HoldingLaws.{span_on_holds, before_holds}
 
 -- the fit's search stops at its limit, or at a span that ends above u
-span_from-ends : (flat : List Float) (u : Float) (m s : ℕ) → (span_from flat u m s ≡ s + m) ⊎ (le (at flat (span_from flat u m s + 1)) u ≡ false)
+pub span_from-ends : (flat : List Float) (u : Float) (m s : ℕ) → (span_from flat u m s ≡ s + m) ⊎ (le (at flat (span_from flat u m s + 1)) u ≡ false)
 unfolding span_from
 span_from-ends flat u zero s = inl (omega arith)
 span_from-ends flat u (suc m) s = pick (le (at flat (s + 1)) u) refl (span_from-ends flat u m (s + 1))

@@ -20,7 +20,7 @@ use Rattle.geometry.proofs.DoubleLaws.{finite_number}
 use Rattle.bspline.specs.declared.Refusal.{Refusal}
 use Rattle.bspline.specs.declared.Refusal.TheVariants.{TooFewPoints, InvalidDegree, DegreeTooHigh, TooManyPoles, ConfusedPoints, PoleCountMismatch, NotTriples, TooLarge, BufferTooShort, CoordinateOutOfRange, TooFewKnots, KnotsNotIncreasing, MultiplicityTooLarge, NotReadable, InvalidTarget, FactorOutOfRange, WeightCountMismatch, NonPositiveWeight, NotConvertible, StepsNotRising, DifferenceTooLarge}
 use Rattle.std.specs.Prelude.{Result, Ok, Err}
-use Rattle.bspline.specs.Refusals.{Verdict, number_of, pass, stop_if, ◌next◌}
+use Rattle.bspline.specs.Refusals.{Verdict, number_of, pass, stop_if, ◌next◌, degree_verdict}
 use Rattle.bspline.specs.Spans.{NeverFalls, first_parameter, last_parameter}
 use Rattle.bspline.specs.Reader.{multiplicity, not_increasing, inner_too_large, too_large, no_multiplicity, not_finite, not_readable, flat_knots, sizes_verdict, knots_verdict, reader_verdict, reading_of, number_in, curve_point, Sized, Counted, Reads}
 use Rattle.bspline.proofs.ReaderLaws.{length-flat, flat_never_falls}
@@ -81,6 +81,10 @@ reads poles d knots mults u r e = record {
 
 -- ---- what the checks give
 
+pub degree_pass : (d : ℕ) → degree_verdict d ≡ pass → (1 ≤ d) × (d ≤ 25)
+unfolding degree_verdict
+degree_pass d e = let o = or_false _ _ (test_fails _ _ e) in (ltb-false d 1 o.0, ltb-false 25 d o.1)
+
 pub sizes_pass : (places d knots mults : ℕ) → sizes_verdict places d knots mults ≡ pass → Sized places d knots mults
 unfolding sizes_verdict
 sizes_pass places d knots mults e =
@@ -88,14 +92,14 @@ sizes_pass places d knots mults e =
     let e₂ = both_pass _ _ e₁.1 in
     let e₃ = both_pass _ _ e₂.1 in
     let large = or_false _ _ (test_fails _ _ e₂.0) in
-    let degree = or_false _ _ (test_fails _ _ e₃.0) in
+    let degree = degree_pass d e₃.0 in
     let few = or_false _ _ (test_fails _ _ e₃.1) in
     record {
       triples = eqb-true _ _ (not-false _ (test_fails _ _ e₁.0));
       few = ltb-false _ _ large.0;
       short = ltb-false _ _ large.1;
-      low = ltb-false _ _ degree.0;
-      high = ltb-false _ _ degree.1;
+      low = degree.0;
+      high = degree.1;
       two = ltb-false _ _ few.0;
       pairs = eqb-true _ _ (not-false _ (or_false (ltb mults 2) (not (eqb knots mults)) few.1).1);
     }

@@ -6,3 +6,5 @@ pub mod CheckLaws
 pub mod HoldingLaws
 pub mod AgreeLaws
 pub mod Examples
+mod ZeroLaws
+pub mod Book

@@ -9,12 +9,11 @@ use mathlib.Core.List.{List, [], ◌∷◌, ◌++◌, append-nil}
 use lib.Ieee.{Float, nan}
 use lib.ListN.{length, set, take, drop, drop_of_length-le, get_or-append}
 use lib.Seq.{length-take-le}
-use Rattle.std.proofs.lemmas.List.{get_or-take, get_or-drop, get_or-append_right}
+use Rattle.std.proofs.lemmas.List.{get_or-take, get_or-drop, get_or-append_right, take_rest, drop-drop}
 use Rattle.std.proofs.lemmas.Slice.{drop-append-drop}
 use borrow.Author.Tests.{lt-ltb, le-ltb}
 use Rattle.places.specs.Places.{list_of}
 use Rattle.places.specs.Regions.{part}
-use Rattle.places.proofs.RegionLaws.{get_d_part}
 use Rattle.places.proofs.PlaceLaws.{length-list_of, list_of-at, list_of-same, list_of-next}
 use Rattle.geometry.specs.Doubles.{◌⊕◌, ◌⊖◌, ◌⊗◌, ◌⊘◌, nought, one, at}
 use Rattle.bspline.specs.Basis.{share, rising, row, basis, left_of, right_of, basis_at}
@@ -132,15 +131,21 @@ module _ (f : ℕ → Float) (j : ℕ) (old now : List Float) (r : ℕ) (e : now
       let none : drop r (take j old) ≡ [] = drop_of_length-le (take j old) (omega (arith, length-take-le j old h)) in
       rw (e, none, append-nil, q)
 
--- the distances of u from the knots around the span, which the pass takes from knots lent from place `from` on
-module _ (flat : List Float) (span from : ℕ) (u : Float) where
-  pub left_in : (j r k : ℕ) → from + k ≡ span + 1 - (j - r) → from + k < length flat → u ⊖ at (part from (length flat) flat) k ≡ left_of flat span u (j - r)
+-- the distances of u from the knots around the span, which a turn of the pass takes from the knots from place `from` on
+module _ (flat : List Float) {knots : List Float} (span from : ℕ) (u : Float) (e : knots ≡ drop from flat) where
+  pub left_in : (j r k : ℕ) → from + k ≡ span + 1 - (j - r) → u ⊖ at knots k ≡ left_of flat span u (j - r)
   unfolding left_of
-  left_in j r k e h = ap (λ (x : Float). u ⊖ x) (get_d_part from (length flat) flat k nan h ∙ ap (at flat) e)
+  left_in j r k h = ap (λ (x : Float). u ⊖ x) (ap (λ (l : List Float). at l k) e ∙ get_or-drop from flat k nan ∙ ap (at flat) h)
 
-  pub right_in : (r k : ℕ) → from + k ≡ span + (r + 1) → from + k < length flat → at (part from (length flat) flat) k ⊖ u ≡ right_of flat span u (r + 1)
+  pub right_in : (r k : ℕ) → from + k ≡ span + (r + 1) → at knots k ⊖ u ≡ right_of flat span u (r + 1)
   unfolding right_of
-  right_in r k e h = ap (λ (x : Float). x ⊖ u) (get_d_part from (length flat) flat k nan h ∙ ap (at flat) e)
+  right_in r k h = ap (λ (x : Float). x ⊖ u) (ap (λ (l : List Float). at l k) e ∙ get_or-drop from flat k nan ∙ ap (at flat) h)
+
+-- the next turn takes them from the place behind
+pub knots-next : (flat : List Float) {knots : List Float} (from r : ℕ) → knots ≡ drop (from + r) flat → part 1 (length knots) knots ≡ drop (from + (r + 1)) flat
+knots-next flat {knots} from r e =
+    let m : from + r + 1 ≡ from + (r + 1) = omega arith in
+    take_rest knots 1 ∙ ap (drop 1) e ∙ drop-drop 1 (from + r) flat ∙ ap (λ (k : ℕ). drop k flat) m
 
 -- ---- degree 3, worked out
 

@@ -8,8 +8,8 @@ use Rattle.geometry.specs.declared.Point.{Point}
 use Rattle.geometry.specs.Doubles.{at, is_finite}
 use Rattle.geometry.specs.Points.{point_at, weighted}
 use Rattle.bspline.specs.declared.Refusal.{Refusal}
-use Rattle.bspline.specs.declared.Refusal.TheVariants.{InvalidDegree, PoleCountMismatch, NotTriples, TooLarge, TooFewKnots, KnotsNotIncreasing, MultiplicityTooLarge, NotReadable}
-use Rattle.bspline.specs.Refusals.{Verdict, number_of, stop_if, ◌next◌}
+use Rattle.bspline.specs.declared.Refusal.TheVariants.{PoleCountMismatch, NotTriples, TooLarge, TooFewKnots, KnotsNotIncreasing, MultiplicityTooLarge, NotReadable}
+use Rattle.bspline.specs.Refusals.{Verdict, number_of, stop_if, ◌next◌, degree_verdict}
 use Rattle.bspline.specs.Spans.{clamp, span_of, first_parameter, last_parameter}
 use Rattle.bspline.specs.Basis.{basis_at}
 
@@ -49,7 +49,7 @@ unfoldable pub sizes_verdict : ℕ → ℕ → ℕ → ℕ → Verdict
 sizes_verdict places d knots mults =
     stop_if (not (eqb (places % 3) 0)) NotTriples
     next stop_if (ltb 1024 (places / 3) || ltb 1050 knots) TooLarge
-    next stop_if (ltb d 1 || ltb 25 d) InvalidDegree
+    next degree_verdict d
     next stop_if (ltb knots 2 || (ltb mults 2 || not (eqb knots mults))) TooFewKnots
 
 -- 13, 14, 6, of n poles

@@ -1,51 +1,52 @@
 // The basis functions that are not zero on a knot span (The NURBS Book, A2.2), in the first places of lent values. The differences of knots are taken where they are
-// used.
+// used. What is read and what is written are parameters, as in the Rust.
 ghost use Rattle.std.specs.Prelude.{◌≡◌, ◌++◌, ◌+◌, ◌%◌, ◌<◌, ◌≤◌, length, drop};
 ghost use Rattle.places.specs.Places.{list_of};
 ghost use Rattle.geometry.specs.Doubles.{at};
 ghost use Rattle.bspline.specs.Basis.{left_of, right_of, row, basis_at};
 
-// The functions of degree j at u from those of degree j - 1, in place: function r of degree j - 1 is not zero from the knot below[r] to above[r].
+// The functions of degree j at u from those of degree j - 1, in place. The knots move on with the values: a turn's function of degree j - 1 is not zero from knots[0] to
+// knots[j]. After `iter_mut().zip(..)` what the values hold would not be known.
 fn raise(flat: &[f64], span: usize, u: f64, j: usize, values: &mut [f64])
     requires { (j ≤ span) × (span + j < length flat.now) × (j < length values.old) }
     ensures { values.new ≡ list_of (j + 1) (row (left_of flat.now span u) (right_of flat.now span u) (at values.old) j) ++ drop (j + 1) values.old }
 {
-    let below = &flat[span + 1 - j..];
-    let above = &flat[span + 1..];
+    let mut knots = &flat[span + 1 - j..];
     let mut saved = 0.0;
-    for (r, value) in values[..j].iter_mut().enumerate() {
-        let a = u - below[r];
-        let b = above[r] - u;
+    for value in values[..j].iter_mut() {
+        let a = u - knots[0];
+        let b = knots[j] - u;
         let temp = *value * (1.0 / (b + a));
         *value = saved + b * temp;
         saved = a * temp;
+        knots = &knots[1..];
     }
     values[j] = saved;
 }
 
-// The functions of degree j + 1 at u from those of degree j - 1, in one pass and in place: a function of degree j is used where it is made and not stored. Function r
-// of degree j is not zero from the knot below[r] to above[r], that of degree j - 1 from below[r + 1] on.
+// The functions of degree j + 1 at u from those of degree j - 1, in one pass and in place: a function of degree j is used where it is made and not stored. A turn's
+// function of degree j is not zero from knots[0] to knots[j + 1], that of degree j - 1 from knots[1] on.
 fn raise_twice(flat: &[f64], span: usize, u: f64, j: usize, values: &mut [f64])
     requires { (j ≤ span) × (span + j + 1 < length flat.now) × (j + 1 < length values.old) }
     ensures { values.new ≡ list_of (j + 2) (row (left_of flat.now span u) (right_of flat.now span u)
         (row (left_of flat.now span u) (right_of flat.now span u) (at values.old) j) (j + 1)) ++ drop (j + 2) values.old }
 {
-    let below = &flat[span - j..];
-    let above = &flat[span + 1..];
+    let mut knots = &flat[span - j..];
     let mut lower = 0.0;
     let mut upper = 0.0;
-    for (r, value) in values[..j].iter_mut().enumerate() {
-        let a = u - below[r + 1];
-        let b = above[r] - u;
-        let c = u - below[r];
+    for value in values[..j].iter_mut() {
+        let a = u - knots[1];
+        let b = knots[j + 1] - u;
+        let c = u - knots[0];
         let x = *value * (1.0 / (b + a));
         let y = (lower + b * x) * (1.0 / (b + c));
         *value = upper + b * y;
         lower = a * x;
         upper = c * y;
+        knots = &knots[1..];
     }
-    let b = above[j] - u;
-    let c = u - below[j];
+    let b = knots[j + 1] - u;
+    let c = u - knots[0];
     let y = lower * (1.0 / (b + c));
     values[j] = upper + b * y;
     values[j + 1] = c * y;
@@ -62,7 +63,8 @@ fn begin(flat: &[f64], span: usize, degree: usize, u: f64, values: &mut [f64])
     }
 }
 
-// The functions of degree 3, as `raise` makes them one degree after the other, with nothing stored but the last: the compiler packs the divisions in pairs.
+// The functions of degree 3, as `raise` makes them one degree after the other, with nothing stored but the last: the compiler packs the divisions in pairs (docs/PERFORMANCE.md
+// has what it saves).
 fn cubic_values(flat: &[f64], span: usize, u: f64, values: &mut [f64])
     requires { (3 ≤ span) × (span + 3 < length flat.now) × (3 < length values.old) }
     ensures { values.new ≡ basis_at flat.now 3 span u ++ drop 4 values.old }
@@ -85,14 +87,14 @@ fn cubic_values(flat: &[f64], span: usize, u: f64, values: &mut [f64])
     values[3] = a * z;
 }
 
-// The functions of any degree, two degrees in a pass. Passes go by number: the degree that one starts from follows from it.
+// The functions of any degree, two degrees in a pass: it makes those of degree j + 1 from those of degree j - 1.
 fn paired_values(flat: &[f64], span: usize, degree: usize, u: f64, values: &mut [f64])
     requires { (degree ≤ span) × (span + degree < length flat.now) × (degree < length values.old) }
     ensures { values.new ≡ basis_at flat.now degree span u ++ drop (degree + 1) values.old }
 {
     begin(flat, span, degree, u, values);
-    for i in 0..degree / 2 {
-        raise_twice(flat, span, u, degree % 2 + 2 * i + 1, values);
+    for j in (degree % 2 + 1..degree).step_by(2) {
+        raise_twice(flat, span, u, j, values);
     }
 }
 

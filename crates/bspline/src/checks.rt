@@ -7,8 +7,8 @@ ghost use Rattle.bspline.specs.declared.Refusal.TheVariants.{NotReadable};
 ghost use Rattle.bspline.specs.Spans.{NeverFalls};
 ghost use Rattle.bspline.specs.Reader.{not_increasing, inner_too_large, too_large, no_multiplicity, not_finite, sizes_verdict, knots_verdict, not_readable, flat_knots, Sized, Counted};
 
-use crate::Refusal;
 use crate::curve::Curve;
+use crate::{Refusal, check_degree};
 
 // Whether some knot is at or below its predecessor.
 fn not_increasing(knots: &[f64]) -> bool
@@ -71,9 +71,7 @@ impl<'a> Curve<'a> {
         if 1024 < self.poles.len() / 3 || 1050 < self.knots.len() {
             return Err(Refusal::TooLarge);
         }
-        if self.degree < 1 || 25 < self.degree {
-            return Err(Refusal::InvalidDegree);
-        }
+        check_degree(self.degree)?;
         if self.knots.len() < 2 || self.knots.len() != self.mults.len() {
             return Err(Refusal::TooFewKnots);
         }

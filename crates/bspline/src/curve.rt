@@ -22,6 +22,7 @@ impl<'a> Curve<'a> {
         self.check_sizes()?;
         self.check_knots()?;
         let count = self.poles.len() / 3 + self.degree + 1;
+        // on the stack: a reading takes nothing from the heap
         let mut places = [0.0; 1050];
         flat_knots(self.knots, self.mults, &mut places);
         let flat = &places[..count];

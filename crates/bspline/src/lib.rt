@@ -7,8 +7,8 @@ pub mod curve;
 pub mod reader;
 pub mod spans;
 
-ghost use Rattle.std.specs.Prelude.{◌≡◌};
-ghost use Rattle.bspline.specs.Refusals.{number_of, factor_verdict};
+ghost use Rattle.std.specs.Prelude.{◌≡◌, ◌≤◌, OnOk};
+ghost use Rattle.bspline.specs.Refusals.{number_of, degree_verdict, factor_verdict};
 
 // Why a call is refused, with the documents' number. The first six and TooFewKnots, KnotsNotIncreasing and MultiplicityTooLarge have the Rust's names; documents 01 and 02
 // add the others. 11 is the card program's alone.
@@ -44,6 +44,18 @@ impl Refusal {
     {
         self as u32
     }
+}
+
+// 2: a degree that is not between 1 and 25.
+#[tactic(auto, unfolding(crate::specs::Refusals::degree_verdict))]
+pub fn check_degree(degree: usize) -> Result<(), Refusal>
+    ensures verdict { result ≡ degree_verdict degree }
+    ensures within { OnOk result ((1 ≤ degree) × (degree ≤ 25)) }
+{
+    if degree < 1 || 25 < degree {
+        return Err(Refusal::InvalidDegree);
+    }
+    Ok(())
 }
 
 // 17: a lightness factor that is not between 0.25 and 4.

@@ -13,6 +13,7 @@ pub fn flat_knots(knots: &[f64], mults: &[u32], out: &mut [f64])
     requires { (length knots.now ≡ length mults.now) × (sum_of mults.now ≤ length out.old) }
     ensures { out.new ≡ flat_knots knots.now mults.now ++ drop (sum_of mults.now) out.old }
 {
+    // end counts the places that were written, more than the knots that were read
     let mut end = 0;
     for (knot, mult) in knots.iter().zip(mults) {
         let m = *mult as usize;
@@ -21,17 +22,18 @@ pub fn flat_knots(knots: &[f64], mults: &[u32], out: &mut [f64])
     }
 }
 
-// The sum of the first `count` values times the poles from `first` on.
-pub fn pole_sum(values: &[f64], poles: &[f64], first: usize, count: usize) -> Point
-    requires { (count ≤ length values.now) × (3 * (first + count) ≤ length poles.now) }
-    ensures { result ≡ weighted count (at values.now) (λ a. point_at poles.now (first + a)) }
+// The sum of the values times the poles from `first` on.
+pub fn pole_sum(values: &[f64], poles: &[f64], first: usize) -> Point
+    requires { 3 * (first + length values.now) ≤ length poles.now }
+    ensures { result ≡ weighted (length values.now) (at values.now) (λ a. point_at poles.now (first + a)) }
 {
     let mut sum = Point {
         x: 0.0,
         y: 0.0,
         z: 0.0,
     };
-    for (a, value) in values[..count].iter().enumerate() {
+    // a pole is found by its number
+    for (a, value) in values.iter().enumerate() {
         sum = sum.plus_scaled(*value, geometry::point_at(poles, first + a));
     }
     sum
@@ -44,7 +46,7 @@ fn span_point(flat: &[f64], degree: usize, span: usize, poles: &[f64], u: f64) -
 {
     let mut values = [0.0; 26];
     crate::basis::basis_values(flat, span, degree, u, &mut values);
-    pole_sum(&values, poles, span - degree, degree + 1)
+    pole_sum(&values[..degree + 1], poles, span - degree)
 }
 
 // The point at u of a curve whose flat knots never fall: u is clamped into the range.

@@ -14,7 +14,7 @@ use checks::slices::Output;
 use fitting::Fit;
 use knots::Metric;
 
-// The work and the indices of a ladder of 64 points of degree 25.
+// The work and the indices of a ladder of 64 points of degree 25, on the stack as all that the program lends.
 const WORK: usize = 7488;
 
 const INDEX: usize = 256;

@@ -20,7 +20,8 @@ pub const ROOM: usize = 8192;
 
 pub const REFUSAL_ROOM: usize = 29;
 
-// What is printed of a curve: its mark and unreadable count, its distinct knots with their multiplicities, and its poles.
+// What is printed of a curve: its mark and unreadable count, its distinct knots with their multiplicities, and its poles. A curve that is read (`bspline::curve::Curve`) has a degree
+// and neither mark nor count.
 #[derive(Clone, Copy)]
 pub struct Curve<'a> {
     pub mark: Mark,

@@ -13,8 +13,9 @@ use Rattle.std.specs.Prelude.{Option, Some, None}
 use borrow.Author.Tests.{ltb-true, lt-ltb, eq-eqb, ne_eqb}
 use Rattle.card_text.specs.Text.{glyph, digits, word_text, decimal_text, coordinate_names}
 use Rattle.card_reader.specs.Card.{head_names, spacing_text, tolerance_text, Row, row_text, rows_text, head_text, card_text, HeadFits, RowFits, RowsFit, Bounded}
-use Rattle.card_reader.specs.Reading.{no_digits, reached, next, head, more, after, word_next, degree_next, literal_next}
+use Rattle.card_reader.specs.Reading.{no_digits, reached, next, head, card_of, more, after, word_next, degree_next, literal_next}
 use Rattle.card_reader.specs.declared.Head.{Head}
+use Rattle.card_reader.specs.declared.Card.{Card}
 use Rattle.knots.specs.declared.Spacing.{Spacing}
 use Rattle.knots.specs.declared.Spacing.TheVariants as spacing
 use Rattle.card_reader.specs.declared.Digits.{Digits}
@@ -95,17 +96,17 @@ bound-more : (d : ℕ) (s : Spacing) (ps : List Row) → Goes (Bound d s) ps
 unfolding reached rows
 bound-more d s ps k v c h l = (rw (not_n c l, and-false (eqb k 0), word_more k v c 10 h l), refl)
 
-x-more : (h : Head) (n : ℕ) (ps : List Row) → Goes (X h n) ps
+x-more : (c : Card) (ps : List Row) → Goes (X c) ps
 unfolding reached rows
-x-more g n ps k v c h l = (rw (word_more k v c 32 h l), refl)
+x-more c ps k v d h l = (rw (word_more k v d 32 h l), refl)
 
-y-more : (h : Head) (n x : ℕ) (ps : List Row) → Goes (Y h n x) ps
+y-more : (c : Card) (x : ℕ) (ps : List Row) → Goes (Y c x) ps
 unfolding reached rows
-y-more g n x ps k v c h l = (rw (word_more k v c 32 h l), refl)
+y-more c x ps k v d h l = (rw (word_more k v d 32 h l), refl)
 
-z-more : (h : Head) (n x y : ℕ) (ps : List Row) → Goes (Z h n x y) ps
+z-more : (c : Card) (x y : ℕ) (ps : List Row) → Goes (Z c x y) ps
 unfolding reached rows
-z-more g n x y ps k v c h l = (rw (word_more k v c 10 h l), rw (word_more k v c 10 h l))
+z-more c x y ps k v d h l = (rw (word_more k v d 10 h l), rw (word_more k v d 10 h l))
 
 -- ---- the degree
 
@@ -181,50 +182,50 @@ tolerance_end d s (Some w) h = pass_word (Bound d s) [] (bound-more d s []) w (1
 at_axes : (h : Head) → HeadFits h → read start (to_axes h) ≡ page (Axes h 0) []
 at_axes h f = then start (to_tolerance h.degree h.spacing) _ (at-tolerance h.degree h.spacing f.degree) (tolerance_end h.degree h.spacing h.tolerance f.tolerance)
 
-axes_end : (h : Head) → read (page (Axes h 0) []) coordinate_names ≡ page (X h 0 no_digits) []
+axes_end : (h : Head) → read (page (Axes h 0) []) coordinate_names ≡ page (X (card_of h 0) no_digits) []
 unfolding read reached rows literal_next
 axes_end h = refl
 
-at-points : (h : Head) → HeadFits h → read start (head_text h) ≡ page (X h 0 no_digits) []
+at-points : (h : Head) → HeadFits h → read start (head_text h) ≡ page (X (card_of h 0) no_digits) []
 at-points h f = ap (read start) (sym (head_end h)) ∙ then start (to_axes h) coordinate_names (at_axes h f) (axes_end h)
 
 -- ---- the points
 
-x_end : (h : Head) (n x : ℕ) (ps : List Row) → read (page (X h n (number 16 x)) ps) (32 ∷ []) ≡ page (Y h n x no_digits) ps
+x_end : (c : Card) (x : ℕ) (ps : List Row) → read (page (X c (number 16 x)) ps) (32 ∷ []) ≡ page (Y c x no_digits) ps
 unfolding read reached rows
-x_end h n x ps = rw (word_end x 32)
+x_end c x ps = rw (word_end x 32)
 
-y_end : (h : Head) (n x y : ℕ) (ps : List Row) → read (page (Y h n x (number 16 y)) ps) (32 ∷ []) ≡ page (Z h n x y no_digits) ps
+y_end : (c : Card) (x y : ℕ) (ps : List Row) → read (page (Y c x (number 16 y)) ps) (32 ∷ []) ≡ page (Z c x y no_digits) ps
 unfolding read reached rows
-y_end h n x y ps = rw (word_end y 32)
+y_end c x y ps = rw (word_end y 32)
 
-z_end : (h : Head) (n x y z : ℕ) (ps : List Row) → read (page (Z h n x y (number 16 z)) ps) (10 ∷ []) ≡ page (X h (more n) no_digits) (ps ++ (record { x = x; y = y; z = z } ∷ []))
+z_end : (c : Card) (x y z : ℕ) (ps : List Row) → read (page (Z c x y (number 16 z)) ps) (10 ∷ []) ≡ page (X (card_of c.head (more c.points)) no_digits) (ps ++ (record { x = x; y = y; z = z } ∷ []))
 unfolding read reached rows
-z_end h n x y z ps = rw (word_end z 10)
+z_end c x y z ps = rw (word_end z 10)
 
-at_row : (h : Head) (n : ℕ) (ps : List Row) (p : Row) → RowFits p → read (page (X h n no_digits) ps) (row_text p) ≡ page (X h (more n) no_digits) (ps ++ (p ∷ []))
-at_row h n ps p f =
-    pass_word (X h n) ps (x-more h n ps) p.x _ f.x
-    (then (page (X h n (number 16 p.x)) ps) (32 ∷ []) _ (x_end h n p.x ps)
-    (pass_word (Y h n p.x) ps (y-more h n p.x ps) p.y _ f.y
-    (then (page (Y h n p.x (number 16 p.y)) ps) (32 ∷ []) _ (y_end h n p.x p.y ps)
-    (pass_word (Z h n p.x p.y) ps (z-more h n p.x p.y ps) p.z _ f.z
-    (z_end h n p.x p.y p.z ps)))))
+at_row : (c : Card) (ps : List Row) (p : Row) → RowFits p → read (page (X c no_digits) ps) (row_text p) ≡ page (X (card_of c.head (more c.points)) no_digits) (ps ++ (p ∷ []))
+at_row c ps p f =
+    pass_word (X c) ps (x-more c ps) p.x _ f.x
+    (then (page (X c (number 16 p.x)) ps) (32 ∷ []) _ (x_end c p.x ps)
+    (pass_word (Y c p.x) ps (y-more c p.x ps) p.y _ f.y
+    (then (page (Y c p.x (number 16 p.y)) ps) (32 ∷ []) _ (y_end c p.x p.y ps)
+    (pass_word (Z c p.x p.y) ps (z-more c p.x p.y ps) p.z _ f.z
+    (z_end c p.x p.y p.z ps)))))
 
-at_rows : (h : Head) (m : ℕ) (ps qs : List Row) → RowsFit qs → read (page (X h (min 65 m) no_digits) ps) (rows_text qs) ≡ page (X h (min 65 (m + length qs)) no_digits) (ps ++ qs)
+at_rows : (h : Head) (m : ℕ) (ps qs : List Row) → RowsFit qs → read (page (X (card_of h (min 65 m)) no_digits) ps) (rows_text qs) ≡ page (X (card_of h (min 65 (m + length qs))) no_digits) (ps ++ qs)
 unfolding read
 at_rows h m ps [] f =
     let a = sym (add-zero m) in
     let b = sym (append-nil ps) in
-    λ i. page (X h (min 65 (a i)) no_digits) (b i)
+    λ i. page (X (card_of h (min 65 (a i))) no_digits) (b i)
 at_rows h m ps (q ∷ qs) f =
     let c : more (min 65 m) ≡ min 65 (m + 1) = count-more (min 65 m) m refl in
     let n : m + 1 + length qs ≡ m + suc (length qs) = omega arith in
-    then (page (X h (min 65 m) no_digits) ps) (row_text q) (rows_text qs)
-    (at_row h (min 65 m) ps q f.0 ∙ ap (λ k. page (X h k no_digits) (ps ++ (q ∷ []))) c)
-    (at_rows h (m + 1) (ps ++ (q ∷ [])) qs f.1 ∙ (λ i. page (X h (min 65 (n i)) no_digits) (append_assoc ps (q ∷ []) qs i)))
+    then (page (X (card_of h (min 65 m)) no_digits) ps) (row_text q) (rows_text qs)
+    (at_row (card_of h (min 65 m)) ps q f.0 ∙ ap (λ k. page (X (card_of h k) no_digits) (ps ++ (q ∷ []))) c)
+    (at_rows h (m + 1) (ps ++ (q ∷ [])) qs f.1 ∙ (λ i. page (X (card_of h (min 65 (n i))) no_digits) (append_assoc ps (q ∷ []) qs i)))
 
-pub at-card : (h : Head) (ps : List Row) → HeadFits h → RowsFit ps → read start (card_text h ps) ≡ page (X h (min 65 (length ps)) no_digits) ps
+pub at-card : (h : Head) (ps : List Row) → HeadFits h → RowsFit ps → read start (card_text h ps) ≡ page (X (card_of h (min 65 (length ps))) no_digits) ps
 at-card h ps f g =
     then start (head_text h) (rows_text ps) (at-points h f)
-    (at_rows h 0 [] ps g ∙ ap (λ k. page (X h (min 65 k) no_digits) ps) (zero-add (length ps)))
+    (at_rows h 0 [] ps g ∙ ap (λ k. page (X (card_of h (min 65 k)) no_digits) ps) (zero-add (length ps)))

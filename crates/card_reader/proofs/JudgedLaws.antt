@@ -11,7 +11,7 @@ use Rattle.std.specs.Prelude.{Result, Ok, Err}
 use borrow.Author.Tests.{ltb-true, ltb-false, eqb-true, lt-ltb}
 use Rattle.card_text.specs.Text.{digits}
 use Rattle.card_reader.specs.Card.{Row, IsCard, laid_over, card_text}
-use Rattle.card_reader.specs.Reading.{no_digits, next, kept, after, kept_after, HasRead, judgement_of}
+use Rattle.card_reader.specs.Reading.{no_digits, card_of, next, kept, after, kept_after, HasRead, judgement_of}
 use Rattle.card_reader.specs.Judged.{Judged}
 use Rattle.card_reader.specs.declared.Head.{Head}
 use Rattle.card_reader.specs.declared.State.{State}
@@ -35,19 +35,19 @@ Said t ps (Err error.TooMany) = ((h : Head) × IsCard t h ps) × (64 < length ps
 Said t ps (Err error.Unreadable) = Unit
 
 said : (s : State) (ps : List Row) (t : List ℕ) → Seen s ps t → Said t ps (judgement_of s)
-said (X h n r) ps t f =
+said (X c r) ps t f =
     test (Said t ps) (eqb r.count 0) _ _
-    (λ e. test (Said t ps) (ltb n 65) _ _ (λ l. (card r.count r.value (eqb-true r.count 0 e) f.0, (few (ltb-true n 65 l)).0, (few (ltb-true n 65 l)).1)) (λ l. ((h, card r.count r.value (eqb-true r.count 0 e) f.0), many (ltb-false n 65 l))))
+    (λ e. test (Said t ps) (ltb c.points 65) _ _ (λ l. (card r.count r.value (eqb-true r.count 0 e) f.0, (few (ltb-true c.points 65 l)).0, (few (ltb-true c.points 65 l)).1)) (λ l. ((c.head, card r.count r.value (eqb-true r.count 0 e) f.0), many (ltb-false c.points 65 l))))
     (λ e. tt)
   where
-    card : (k v : ℕ) → k ≡ 0 → t ≡ card_text h ps ++ digits 16 k v → IsCard t h ps
-    card k v e g = record { head = f.2.head; points = f.2.rows; text = (rw e at g) ∙ append-nil (card_text h ps) }
+    card : (k v : ℕ) → k ≡ 0 → t ≡ card_text c.head ps ++ digits 16 k v → IsCard t c.head ps
+    card k v e g = record { head = f.2.head; points = f.2.rows; text = (rw e at g) ∙ append-nil (card_text c.head ps) }
 
-    few : n < 65 → (length ps ≡ n) × (n ≤ 64)
-    few l = let c = f.2.count in omega arith
+    few : c.points < 65 → (length ps ≡ c.points) × (c.points ≤ 64)
+    few l = let n = f.2.count in omega arith
 
-    many : 65 ≤ n → 64 < length ps
-    many l = let c = f.2.count in omega arith
+    many : 65 ≤ c.points → 64 < length ps
+    many l = let n = f.2.count in omega arith
 said (Names k) ps t f = tt
 said (Degree r) ps t f = tt
 said (Chordal d k) ps t f = tt
@@ -55,12 +55,9 @@ said (Centripetal d k) ps t f = tt
 said (Bound d s r) ps t f = tt
 said (Without d s k) ps t f = tt
 said (Axes h k) ps t f = tt
-said (Y h n x r) ps t f = tt
-said (Z h n x y r) ps t f = tt
+said (Y c x r) ps t f = tt
+said (Z c x y r) ps t f = tt
 said Unreadable ps t f = tt
-
-abbrev pub card_of : Head → ℕ → Card
-card_of h n = record { head = h; points = n }
 
 -- an accepted text is the text of a card with that head and that number of points, which lie in the slice
 pub accepted : (t : List ℕ) (xs : List Float) (c : Card) → 192 ≤ length xs → judged t ≡ Ok c
@@ -78,7 +75,7 @@ too_many t e =
 
 -- the state and the rows after the text of a card
 at_end : (t : List ℕ) (h : Head) (ps : List Row) → IsCard t h ps
-    → (after (Names 0) t ≡ X h (min 65 (length ps)) no_digits) × (rows_after (Names 0) t [] ≡ ps)
+    → (after (Names 0) t ≡ X (card_of h (min 65 (length ps))) no_digits) × (rows_after (Names 0) t [] ≡ ps)
 at_end t h ps c =
     let e = sym (read_is (Names 0) [] t) ∙ ap (read (record { state = Names 0; points = [] })) c.text ∙ at-card h ps c.head c.points in
     (ap (λ (p : Page). p.state) e, ap (λ (p : Page). p.points) e)
@@ -111,7 +108,8 @@ unreadable t e h ps c = go (ltb 64 (length ps)) refl
 pub one-card : (t : List ℕ) (h g : Head) (ps qs : List Row) → IsCard t h ps → IsCard t g qs → (h ≡ g) × (ps ≡ qs)
 one-card t h g ps qs c d =
     let e = sym (at_end t h ps c).0 ∙ (at_end t g qs d).0 in
-    (cc, sym (at_end t h ps c).1 ∙ (at_end t g qs d).1)
+    let same : card_of h (min 65 (length ps)) ≡ card_of g (min 65 (length qs)) = cc in
+    (ap (λ (k : Card). k.head) same, sym (at_end t h ps c).1 ∙ (at_end t g qs d).1)
 
 -- all of it in one
 pub judged-right : (t : List ℕ) (xs : List Float) → 192 ≤ length xs → Judged t xs (kept_after (Names 0) t xs) (judged t)

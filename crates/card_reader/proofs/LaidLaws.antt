@@ -71,15 +71,15 @@ full_over n p ps l e s = ap (λ (q : List Row). doubles q ++ drop (3 * length q)
 
 kept_next : (s : State) (b : ℕ) (ps : List Row) (t : List ℕ) (l : List Float) → Seen s ps t → 192 ≤ length l → kept s b (laid_over l ps) ≡ laid_over l (rows s b ps)
 unfolding kept rows
-kept_next (Z g n x y r) b ps t l h m = go (word_next r b 10)
+kept_next (Z c x y r) b ps t l h m = go (word_next r b 10)
   where
-    pick : (c : Bool) (u w z : List Float) → (c ≡ true → u ≡ z) → (c ≡ false → w ≡ z) → cond c u w ≡ z
+    pick : (o : Bool) (u w z : List Float) → (o ≡ true → u ≡ z) → (o ≡ false → w ≡ z) → cond o u w ≡ z
     pick true u w z f g = f refl
     pick false u w z f g = g refl
 
     go : (w : Option Word)
-        → on_whole (λ z. cond (ltb n 64) (put_point n (point_of (row x y z)) (laid_over l ps)) (laid_over l ps)) (laid_over l ps) w ≡ laid_over l (on_whole (λ z. ps ++ (row x y z ∷ [])) ps w)
-    go (Some (Whole z)) = pick (ltb n 64) _ _ _ (λ e. put_over n (row x y z) ps l h.2.count (ltb-true n 64 e) m) (λ e. full_over n _ ps l h.2.count (ltb-false n 64 e))
+        → on_whole (λ z. cond (ltb c.points 64) (put_point c.points (point_of (row x y z)) (laid_over l ps)) (laid_over l ps)) (laid_over l ps) w ≡ laid_over l (on_whole (λ z. ps ++ (row x y z ∷ [])) ps w)
+    go (Some (Whole z)) = pick (ltb c.points 64) _ _ _ (λ e. put_over c.points (row x y z) ps l h.2.count (ltb-true c.points 64 e) m) (λ e. full_over c.points _ ps l h.2.count (ltb-false c.points 64 e))
     go (Some (More d)) = refl
     go None = refl
 kept_next (Names k) b ps t l h m = refl
@@ -89,8 +89,8 @@ kept_next (Centripetal d k) b ps t l h m = refl
 kept_next (Bound d s r) b ps t l h m = refl
 kept_next (Without d s k) b ps t l h m = refl
 kept_next (Axes g k) b ps t l h m = refl
-kept_next (X g n r) b ps t l h m = refl
-kept_next (Y g n x r) b ps t l h m = refl
+kept_next (X c r) b ps t l h m = refl
+kept_next (Y c x r) b ps t l h m = refl
 kept_next Unreadable b ps t l h m = refl
 
 kept-after : (s : State) (ps : List Row) (done t : List ℕ) (l : List Float) → Seen s ps done → 192 ≤ length l

@@ -39,9 +39,9 @@ held_next (Bound d s r) b h =
     (λ n. word_cases Held (Bound d s) _ r b 10 (λ f l. lit< tt) (λ f c e. one_digit_more 16 16 r c h f (glyph_digit b c e).small) tt)
 held_next (Without d s k) b h = literal_cases Held _ k b _ _ (λ e l. lit< tt) (λ e l. omega arith) tt
 held_next (Axes g k) b h = literal_cases Held _ k b _ _ (λ e l. none_yet 16 16) (λ e l. omega arith) tt
-held_next (X g n r) b h = word_cases Held (X g n) _ r b 32 (λ e l. none_yet 16 16) (λ f c e. one_digit_more 16 16 r c h f (glyph_digit b c e).small) tt
-held_next (Y g n x r) b h = word_cases Held (Y g n x) _ r b 32 (λ e l. none_yet 16 16) (λ f c e. one_digit_more 16 16 r c h f (glyph_digit b c e).small) tt
-held_next (Z g n x y r) b h = word_cases Held (Z g n x y) _ r b 10 (λ e l. none_yet 16 16) (λ f c e. one_digit_more 16 16 r c h f (glyph_digit b c e).small) tt
+held_next (X c r) b h = word_cases Held (X c) _ r b 32 (λ e l. none_yet 16 16) (λ f d e. one_digit_more 16 16 r d h f (glyph_digit b d e).small) tt
+held_next (Y c x r) b h = word_cases Held (Y c x) _ r b 32 (λ e l. none_yet 16 16) (λ f d e. one_digit_more 16 16 r d h f (glyph_digit b d e).small) tt
+held_next (Z c x y r) b h = word_cases Held (Z c x y) _ r b 10 (λ e l. none_yet 16 16) (λ f d e. one_digit_more 16 16 r d h f (glyph_digit b d e).small) tt
 held_next Unreadable b h = tt
 
 -- a text a byte longer

@@ -13,8 +13,9 @@ use borrow.Author.Tests.{eqb-true, ltb-true, ltb-false}
 use Rattle.std.specs.Prelude.{None, unwrap_or, option_map}
 use Rattle.card_text.specs.Text.{digits, word_text, decimal_text, line, coordinate_names}
 use Rattle.card_reader.specs.Card.{head_names, spacing_text, tolerance_text, Row, row, row_text, rows_text, head_text, card_text, HeadFits, RowFits, RowsFit}
-use Rattle.card_reader.specs.Reading.{no_digits, digit_more, reached, next, DigitsOf, on_word, on_whole, word_next, head, more, after}
+use Rattle.card_reader.specs.Reading.{no_digits, digit_more, reached, next, DigitsOf, on_word, on_whole, word_next, head, card_of, more, after}
 use Rattle.card_reader.specs.declared.Head.{Head}
+use Rattle.card_reader.specs.declared.Card.{Card}
 use Rattle.knots.specs.declared.Spacing.{Spacing}
 use Rattle.knots.specs.declared.Spacing.TheVariants as spacing
 use Rattle.card_reader.specs.declared.Digits.{Digits}
@@ -52,10 +53,10 @@ pub record InHead (d : ℕ) (ps : List Row) : Type 0 where
   pub degree : d < 10 ^ 9
   pub rows : ps ≡ []
 
-pub record InRows (h : Head) (n : ℕ) (ps : List Row) : Type 0 where
-  pub head : HeadFits h
+pub record InRows (c : Card) (ps : List Row) : Type 0 where
+  pub head : HeadFits c.head
   pub rows : RowsFit ps
-  pub count : n ≡ min 65 (length ps)
+  pub count : c.points ≡ min 65 (length ps)
 
 abbrev pub Seen : State → List Row → List ℕ → Type 0
 Seen (Names k) ps t = (t ≡ take k head_names) × (k < 25) × (ps ≡ [])
@@ -65,14 +66,14 @@ Seen (Centripetal d k) ps t = (t ≡ to_spacing d ++ take k (spacing_text spacin
 Seen (Bound d s r) ps t = (t ≡ to_tolerance d s ++ digits 16 r.count r.value) × DigitsOf 16 16 r × InHead d ps
 Seen (Without d s k) ps t = (t ≡ to_tolerance d s ++ take k (tolerance_text None ++ (10 ∷ []))) × (k < 5) × InHead d ps
 Seen (Axes h k) ps t = (t ≡ to_axes h ++ take k coordinate_names) × (k < 6) × HeadFits h × (ps ≡ [])
-Seen (X h n r) ps t = (t ≡ card_text h ps ++ digits 16 r.count r.value) × DigitsOf 16 16 r × InRows h n ps
-Seen (Y h n x r) ps t = (t ≡ to_y h ps x ++ digits 16 r.count r.value) × DigitsOf 16 16 r × InRows h n ps × (x < 2 ^ 64)
-Seen (Z h n x y r) ps t = (t ≡ to_z h ps x y ++ digits 16 r.count r.value) × DigitsOf 16 16 r × InRows h n ps × (x < 2 ^ 64) × (y < 2 ^ 64)
+Seen (X c r) ps t = (t ≡ card_text c.head ps ++ digits 16 r.count r.value) × DigitsOf 16 16 r × InRows c ps
+Seen (Y c x r) ps t = (t ≡ to_y c.head ps x ++ digits 16 r.count r.value) × DigitsOf 16 16 r × InRows c ps × (x < 2 ^ 64)
+Seen (Z c x y r) ps t = (t ≡ to_z c.head ps x y ++ digits 16 r.count r.value) × DigitsOf 16 16 r × InRows c ps × (x < 2 ^ 64) × (y < 2 ^ 64)
 Seen Unreadable ps t = Unit
 
 -- the rows after a byte
 unfoldable pub rows : State → ℕ → List Row → List Row
-rows (Z h n x y r) b ps = on_whole (λ z. ps ++ (row x y z ∷ [])) ps (word_next r b 10)
+rows (Z c x y r) b ps = on_whole (λ z. ps ++ (row x y z ∷ [])) ps (word_next r b 10)
 rows _ b ps = ps
 
 -- ---- a byte more
@@ -220,7 +221,7 @@ module _ (b : ℕ) (ps : List Row) (t : List ℕ) where
   seen_axes : (g : Head) (k : ℕ) → Seen (Axes g k) ps t → Then b ps t (next (Axes g k) b)
   unfolding reached
   seen_axes g k h =
-      literal_cases (Then b ps t) coordinate_names k b (X g 0 no_digits) (Axes g (k + 1))
+      literal_cases (Then b ps t) coordinate_names k b (X (card_of g 0) no_digits) (Axes g (k + 1))
       (λ e l. (fresh (grow (to_axes g) (take k coordinate_names) b h.0 _ (fixed_end coordinate_names k b l e) ∙ head_end g ∙ none g ps h.3), none_yet 16 16, record { head = h.2; rows = rw h.3 tt; count = rw h.3 }))
       (λ e l. (grow (to_axes g) (take k coordinate_names) b h.0 _ (fixed_more coordinate_names k b h.1 e), omega arith, h.2, h.3))
       tt
@@ -238,36 +239,36 @@ module _ (b : ℕ) (ps : List Row) (t : List ℕ) where
       other : (k v : ℕ) → k ≡ 0 → b ≡ 110 → digits 16 k v ++ (b ∷ []) ≡ take 1 (tolerance_text None ++ (10 ∷ []))
       other k v p q = rw (p, q)
 
-  seen-x : (g : Head) (n : ℕ) (r : Digits) → Seen (X g n r) ps t → Then b ps t (next (X g n r) b)
+  seen-x : (c : Card) (r : Digits) → Seen (X c r) ps t → Then b ps t (next (X c r) b)
   unfolding reached word_text
-  seen-x g n r h =
-      word_cases (Then b ps t) (X g n) _ r b 32
-      (λ f l. (fresh (grow (card_text g ps) (digits 16 r.count r.value) b h.0 _ (whole 16 r.count r.value b 32 f l)), none_yet 16 16, h.2, word_fits r.count r.value h.1 f))
-      (λ f c e. let d = glyph_digit b c e in (grow (card_text g ps) (digits 16 r.count r.value) b h.0 _ (digit-more 16 r b c d d.small), one_digit_more 16 16 r c h.1 f d.small, h.2))
+  seen-x c r h =
+      word_cases (Then b ps t) (X c) _ r b 32
+      (λ f l. (fresh (grow (card_text c.head ps) (digits 16 r.count r.value) b h.0 _ (whole 16 r.count r.value b 32 f l)), none_yet 16 16, h.2, word_fits r.count r.value h.1 f))
+      (λ f d e. let g = glyph_digit b d e in (grow (card_text c.head ps) (digits 16 r.count r.value) b h.0 _ (digit-more 16 r b d g g.small), one_digit_more 16 16 r d h.1 f g.small, h.2))
       tt
 
-  seen-y : (g : Head) (n x : ℕ) (r : Digits) → Seen (Y g n x r) ps t → Then b ps t (next (Y g n x r) b)
+  seen-y : (c : Card) (x : ℕ) (r : Digits) → Seen (Y c x r) ps t → Then b ps t (next (Y c x r) b)
   unfolding reached word_text
-  seen-y g n x r h =
-      word_cases (Then b ps t) (Y g n x) _ r b 32
-      (λ f l. (fresh (grow (to_y g ps x) (digits 16 r.count r.value) b h.0 _ (whole 16 r.count r.value b 32 f l)), none_yet 16 16, h.2, h.3, word_fits r.count r.value h.1 f))
-      (λ f c e. let d = glyph_digit b c e in (grow (to_y g ps x) (digits 16 r.count r.value) b h.0 _ (digit-more 16 r b c d d.small), one_digit_more 16 16 r c h.1 f d.small, h.2, h.3))
+  seen-y c x r h =
+      word_cases (Then b ps t) (Y c x) _ r b 32
+      (λ f l. (fresh (grow (to_y c.head ps x) (digits 16 r.count r.value) b h.0 _ (whole 16 r.count r.value b 32 f l)), none_yet 16 16, h.2, h.3, word_fits r.count r.value h.1 f))
+      (λ f d e. let g = glyph_digit b d e in (grow (to_y c.head ps x) (digits 16 r.count r.value) b h.0 _ (digit-more 16 r b d g g.small), one_digit_more 16 16 r d h.1 f g.small, h.2, h.3))
       tt
 
-  seen-z : (g : Head) (n x y : ℕ) (r : Digits) → Seen (Z g n x y r) ps t → Then b (rows (Z g n x y r) b ps) t (next (Z g n x y r) b)
+  seen-z : (c : Card) (x y : ℕ) (r : Digits) → Seen (Z c x y r) ps t → Then b (rows (Z c x y r) b ps) t (next (Z c x y r) b)
   unfolding reached rows word_text
-  seen-z g n x y r h =
-      word_parts (λ w. Seen (unwrap_or (option_map (on_word (Z g n x y) (λ z. X g (more n) no_digits)) w) Unreadable) (on_whole (λ z. ps ++ (row x y z ∷ [])) ps w) (t ++ (b ∷ []))) r b 10
+  seen-z c x y r h =
+      word_parts (λ w. Seen (unwrap_or (option_map (on_word (Z c x y) (λ z. X (card_of c.head (more c.points)) no_digits)) w) Unreadable) (on_whole (λ z. ps ++ (row x y z ∷ [])) ps w) (t ++ (b ∷ []))) r b 10
       (λ f l. (
-        fresh (grow (to_z g ps x y) (digits 16 r.count r.value) b h.0 _ (whole 16 r.count r.value b 10 f l) ∙ row_more g ps x y r.value),
+        fresh (grow (to_z c.head ps x y) (digits 16 r.count r.value) b h.0 _ (whole 16 r.count r.value b 10 f l) ∙ row_more c.head ps x y r.value),
         none_yet 16 16,
         record {
           head = h.2.head;
           rows = rows_more ps _ h.2.rows (record { x = h.3; y = h.4; z = word_fits r.count r.value h.1 f });
-          count = count-more n (length ps) h.2.count ∙ ap (min 65) (sym (length-append ps (row x y r.value ∷ [])));
+          count = count-more c.points (length ps) h.2.count ∙ ap (min 65) (sym (length-append ps (row x y r.value ∷ [])));
         },
       ))
-      (λ f c e. let d = glyph_digit b c e in (grow (to_z g ps x y) (digits 16 r.count r.value) b h.0 _ (digit-more 16 r b c d d.small), one_digit_more 16 16 r c h.1 f d.small, h.2, h.3, h.4))
+      (λ f d e. let g = glyph_digit b d e in (grow (to_z c.head ps x y) (digits 16 r.count r.value) b h.0 _ (digit-more 16 r b d g g.small), one_digit_more 16 16 r d h.1 f g.small, h.2, h.3, h.4))
       tt
 
 -- ---- a text
@@ -281,9 +282,9 @@ seen_next (Centripetal d k) b ps t h = seen_centripetal b ps t d k h
 seen_next (Bound d s r) b ps t h = seen_bound b ps t d s r h
 seen_next (Without d s k) b ps t h = seen_without b ps t d s k h
 seen_next (Axes g k) b ps t h = seen_axes b ps t g k h
-seen_next (X g n r) b ps t h = seen-x b ps t g n r h
-seen_next (Y g n x r) b ps t h = seen-y b ps t g n x r h
-seen_next (Z g n x y r) b ps t h = seen-z b ps t g n x y r h
+seen_next (X c r) b ps t h = seen-x b ps t c r h
+seen_next (Y c x r) b ps t h = seen-y b ps t c x r h
+seen_next (Z c x y r) b ps t h = seen-z b ps t c x y r h
 seen_next Unreadable b ps t h = tt
 
 -- the rows after a text

@@ -74,9 +74,13 @@ abbrev pub without_next : ℕ → Spacing → ℕ → ℕ → Option State
 without_next d s k b =
     literal_next (tolerance_text None ++ (10 ∷ [])) k b (Axes (head d s None) 0) (Without d s (k + 1))
 
+-- a card, by its head and how many points it has
+abbrev pub card_of : Head → ℕ → Card
+card_of h n = record { head = h; points = n }
+
 -- the names of the coordinates
 abbrev pub axes_next : Head → ℕ → ℕ → Option State
-axes_next h k b = literal_next coordinate_names k b (X h 0 no_digits) (Axes h (k + 1))
+axes_next h k b = literal_next coordinate_names k b (X (card_of h 0) no_digits) (Axes h (k + 1))
 
 -- a state from a word's
 abbrev pub on_word : (Digits → State) → (ℕ → State) → Word → State
@@ -95,18 +99,18 @@ tolerance_next d s r b =
     (option_map (on_word (Bound d s) (λ w. Axes (head d s (Some w)) 0)) (word_next r b 10))
 
 -- a point's three words
-abbrev pub x_next : Head → ℕ → Digits → ℕ → Option State
-x_next h n r b = option_map (on_word (X h n) (λ w. Y h n w no_digits)) (word_next r b 32)
+abbrev pub x_next : Card → Digits → ℕ → Option State
+x_next c r b = option_map (on_word (X c) (λ w. Y c w no_digits)) (word_next r b 32)
 
-abbrev pub y_next : Head → ℕ → ℕ → Digits → ℕ → Option State
-y_next h n x r b = option_map (on_word (Y h n x) (λ w. Z h n x w no_digits)) (word_next r b 32)
+abbrev pub y_next : Card → ℕ → Digits → ℕ → Option State
+y_next c x r b = option_map (on_word (Y c x) (λ w. Z c x w no_digits)) (word_next r b 32)
 
 -- one point more, and 65 for every larger number
 abbrev pub more : ℕ → ℕ
 more n = min n 64 + 1
 
-abbrev pub z_next : Head → ℕ → ℕ → ℕ → Digits → ℕ → Option State
-z_next h n x y r b = option_map (on_word (Z h n x y) (λ w. X h (more n) no_digits)) (word_next r b 10)
+abbrev pub z_next : Card → ℕ → ℕ → Digits → ℕ → Option State
+z_next c x y r b = option_map (on_word (Z c x y) (λ w. X (card_of c.head (more c.points)) no_digits)) (word_next r b 10)
 
 -- one byte more, where the text may go on with it
 unfoldable pub reached : State → ℕ → Option State
@@ -117,9 +121,9 @@ reached (Centripetal d k) b = centripetal_next d k b
 reached (Bound d s r) b = tolerance_next d s r b
 reached (Without d s k) b = without_next d s k b
 reached (Axes h k) b = axes_next h k b
-reached (X h n r) b = x_next h n r b
-reached (Y h n x r) b = y_next h n x r b
-reached (Z h n x y r) b = z_next h n x y r b
+reached (X c r) b = x_next c r b
+reached (Y c x r) b = y_next c x r b
+reached (Z c x y r) b = z_next c x y r b
 reached Unreadable b = None
 
 -- the state after one byte more, unreadable where the text may not go on with it
@@ -128,7 +132,7 @@ next s b = unwrap_or (reached s b) Unreadable
 
 -- the points' slice after a byte, which may end the line of a point: the first 64 points are kept
 unfoldable pub kept : State → ℕ → List Float → List Float
-kept (Z h n x y r) b ps = on_whole (λ z. cond (ltb n 64) (put_point n (point_of (row x y z)) ps) ps) ps (word_next r b 10)
+kept (Z c x y r) b ps = on_whole (λ z. cond (ltb c.points 64) (put_point c.points (point_of (row x y z)) ps) ps) ps (word_next r b 10)
 kept _ b ps = ps
 
 -- what a state has within its ranges: digits read, at most so many, and their value in base b; bytes read of a fixed text
@@ -143,9 +147,9 @@ Held (Centripetal d k) = k < 12
 Held (Bound d s r) = DigitsOf 16 16 r
 Held (Without d s k) = k < 5
 Held (Axes h k) = k < 6
-Held (X h n r) = DigitsOf 16 16 r
-Held (Y h n x r) = DigitsOf 16 16 r
-Held (Z h n x y r) = DigitsOf 16 16 r
+Held (X c r) = DigitsOf 16 16 r
+Held (Y c x r) = DigitsOf 16 16 r
+Held (Z c x y r) = DigitsOf 16 16 r
 Held Unreadable = Unit
 
 -- the state after a text, and the points' slice
@@ -164,5 +168,5 @@ pub record HasRead (text : List ℕ) (old : List Float) (s : State) (new : List 
 
 -- what the whole text is judged: it has to end where a line of a point may begin
 abbrev pub judgement_of : State → Result Card CardError
-judgement_of (X h n r) = cond (eqb r.count 0) (cond (ltb n 65) (Ok (record { head = h; points = n })) (Err error.TooMany)) (Err error.Unreadable)
+judgement_of (X c r) = cond (eqb r.count 0) (cond (ltb c.points 65) (Ok c) (Err error.TooMany)) (Err error.Unreadable)
 judgement_of _ = Err error.Unreadable

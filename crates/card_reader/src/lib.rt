@@ -25,6 +25,13 @@ pub struct Head {
     pub tolerance: Option<u64>,
 }
 
+// A card that is read: what stands before its points, and how many there are.
+#[derive(Clone, Copy)]
+pub struct Card {
+    pub head: Head,
+    pub points: usize,
+}
+
 // The digits that are read of a number: how many, and their value.
 #[derive(Clone, Copy, Debug, PartialEq, Eq)]
 pub struct Digits {
@@ -33,10 +40,11 @@ pub struct Digits {
 }
 
 impl Digits {
+    // no digit yet: their count and their value are 0
     pub const NONE: Digits = Digits { count: 0, value: 0 };
 }
 
-// How far a text is read. The points of whole lines lie in the lent slice, and `count` is their number, 65 for more.
+// How far a text is read. The points of whole lines lie in the lent slice, and the card has their number, 65 for more.
 #[derive(Clone, Copy)]
 pub enum State {
     // bytes read of the first line
@@ -53,21 +61,14 @@ pub enum State {
     Without(usize, Spacing, usize),
     // bytes read of the names of the coordinates
     Axes(Head, usize),
-    // count, and the digits of x
-    X(Head, usize, Digits),
-    // count, x, and the digits of y
-    Y(Head, usize, u64, Digits),
-    // count, x, y, and the digits of z
-    Z(Head, usize, u64, u64, Digits),
+    // the card so far, and the digits of x
+    X(Card, Digits),
+    // the card so far, x, and the digits of y
+    Y(Card, u64, Digits),
+    // the card so far, x, y, and the digits of z
+    Z(Card, u64, u64, Digits),
     // no card's text; it is still read to its end, so this is a state and no error
     Unreadable,
-}
-
-// A card that is read: what stands before its points, and how many there are.
-#[derive(Clone, Copy)]
-pub struct Card {
-    pub head: Head,
-    pub points: usize,
 }
 
 // Why a whole text is no card that is fitted, with document 01's numbers: it has over 64 points, or it is the text of no card.
@@ -124,9 +125,9 @@ impl State {
             State::Bound(d, s, read) => steps::bound(d, s, read, b),
             State::Without(d, s, k) => steps::without(d, s, k, b),
             State::Axes(h, k) => steps::axes(h, k, b),
-            State::X(h, n, read) => steps::x(h, n, read, b),
-            State::Y(h, n, x, read) => steps::y(h, n, x, read, b),
-            State::Z(h, n, x, y, read) => steps::z(h, n, x, y, read, b, points),
+            State::X(card, read) => steps::x(card, read, b),
+            State::Y(card, x, read) => steps::y(card, x, read, b),
+            State::Z(card, x, y, read) => steps::z(card, x, y, read, b, points),
             State::Unreadable => None,
         }
     }
@@ -162,10 +163,8 @@ impl State {
         ensures few { Few result }
     {
         match self {
-            State::X(head, points, Digits { count: 0, .. }) if points <= POINTS => {
-                Ok(Card { head, points })
-            }
-            State::X(_, _, Digits { count: 0, .. }) => Err(CardError::TooMany),
+            State::X(card, Digits { count: 0, .. }) if card.points <= POINTS => Ok(card),
+            State::X(_, Digits { count: 0, .. }) => Err(CardError::TooMany),
             _ => Err(CardError::Unreadable),
         }
     }

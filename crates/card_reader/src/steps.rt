@@ -2,7 +2,7 @@
 ghost use Rattle.std.specs.Prelude.{◌≡◌, ◌≤◌, ◌<◌, length};
 ghost use Rattle.card_reader.specs.Reading.{DigitsOf, literal_next, word_next, degree_next, names_next, chordal_next, centripetal_next, tolerance_next, without_next, axes_next, x_next, y_next, z_next, kept};
 
-use crate::{Digits, Head, PLACES, POINTS, State};
+use crate::{Card, Digits, Head, PLACES, POINTS, State};
 use knots::Spacing;
 
 // A word of which a byte more is read: its digits, or the whole word, which has ended. (In a Result a whole word
@@ -154,55 +154,51 @@ pub fn axes(h: Head, k: usize, b: u8) -> Option<State>
         b"x y z\n",
         k,
         b,
-        State::X(h, 0, Digits::NONE),
+        State::X(Card { head: h, points: 0 }, Digits::NONE),
         State::Axes(h, k + 1),
     )
 }
 
 // A point's first word, its second, and its third.
-pub fn x(h: Head, n: usize, read: Digits, b: u8) -> Option<State>
+pub fn x(card: Card, read: Digits, b: u8) -> Option<State>
     requires { DigitsOf 16 16 read }
-    ensures { result ≡ x_next h n read b }
+    ensures { result ≡ x_next card read b }
 {
     Some(match word_digit(read, b, b' ')? {
-        Word::More(read) => State::X(h, n, read),
-        Word::Whole(x) => State::Y(h, n, x, Digits::NONE),
+        Word::More(read) => State::X(card, read),
+        Word::Whole(x) => State::Y(card, x, Digits::NONE),
     })
 }
 
-pub fn y(h: Head, n: usize, x: u64, read: Digits, b: u8) -> Option<State>
+pub fn y(card: Card, x: u64, read: Digits, b: u8) -> Option<State>
     requires { DigitsOf 16 16 read }
-    ensures { result ≡ y_next h n x read b }
+    ensures { result ≡ y_next card x read b }
 {
     Some(match word_digit(read, b, b' ')? {
-        Word::More(read) => State::Y(h, n, x, read),
-        Word::Whole(y) => State::Z(h, n, x, y, Digits::NONE),
+        Word::More(read) => State::Y(card, x, read),
+        Word::Whole(y) => State::Z(card, x, y, Digits::NONE),
     })
 }
 
 // The point of a whole line is laid down, if it is one of the first 64.
 #[tactic(auto, unfolding(crate::specs::Reading::kept))]
-pub fn z(
-    h: Head,
-    n: usize,
-    x: u64,
-    y: u64,
-    read: Digits,
-    b: u8,
-    points: &mut [f64],
-) -> Option<State>
+pub fn z(card: Card, x: u64, y: u64, read: Digits, b: u8, points: &mut [f64]) -> Option<State>
     requires held { DigitsOf 16 16 read }
     requires room { PLACES ≤ length points.old }
-    ensures state { result ≡ z_next h n x y read b }
-    ensures points { points.new ≡ kept (State.Z h n x y read) b points.old }
+    ensures state { result ≡ z_next card x y read b }
+    ensures points { points.new ≡ kept (State.Z card x y read) b points.old }
 {
     Some(match word_digit(read, b, b'\n')? {
-        Word::More(read) => State::Z(h, n, x, y, read),
+        Word::More(read) => State::Z(card, x, y, read),
         Word::Whole(z) => {
-            if n < POINTS {
-                crate::lay(n, x, y, z, points);
+            if card.points < POINTS {
+                crate::lay(card.points, x, y, z, points);
             }
-            State::X(h, n.min(POINTS) + 1, Digits::NONE)
+            let more = Card {
+                points: card.points.min(POINTS) + 1,
+                ..card
+            };
+            State::X(more, Digits::NONE)
         }
     })
 }

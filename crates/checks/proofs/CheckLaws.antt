@@ -7,9 +7,8 @@ use native.Mathlib.Omega.{arith}
 use lib.ListN.{length}
 use lib.Ieee.{Float}
 use borrow.Author.Tests.{ltb-false, eqb-true, not-false}
-use Rattle.places.proofs.PlaceLaws.{or_false}
 use Rattle.bspline.specs.Refusals.{pass}
-use Rattle.bspline.proofs.CheckLaws.{both_pass, test_fails}
+use Rattle.bspline.proofs.CheckLaws.{both_pass, test_fails, degree_pass}
 use Rattle.knots.specs.declared.Metric.{Metric}
 use Rattle.checks.specs.declared.Room.{Room}
 use Rattle.checks.specs.declared.Aim.{Aim}
@@ -28,13 +27,13 @@ shape_pass places p e =
     let e₁ = both_pass _ _ e in
     let e₂ = both_pass _ _ e₁.1 in
     let e₃ = both_pass _ _ e₂.1 in
-    let degree = or_false _ _ (test_fails _ _ e₃.1) in
+    let degree = degree_pass p e₃.1 in
     record {
       triples = eqb-true _ _ (not-false _ (test_fails _ _ e₁.0));
       most = ltb-false _ _ (test_fails _ _ e₂.0);
       least = ltb-false _ _ (test_fails _ _ e₃.0);
-      low = ltb-false _ _ degree.0;
-      high = ltb-false _ _ degree.1;
+      low = degree.0;
+      high = degree.1;
     }
 
 pub unchosen_pass : (n p : ℕ) → unchosen_verdict n p ≡ pass → p ≤ n - 1

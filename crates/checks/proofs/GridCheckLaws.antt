@@ -1,14 +1,13 @@
 -- What a grid that passes the checks has. Assumes nothing.
 use mathlib.Core.Path.{◌≡◌}
-use Prim.Native.Nat.{ℕ, ◌+◌, ◌-◌, ◌*◌, ◌≤◌}
+use Prim.Native.Nat.{ℕ, ◌-◌, ◌*◌, ◌≤◌}
 use native.Mathlib.Nat.{mul-le-mul}
-use native.Mathlib.Omega.{arith}
 use lib.ListN.{length}
 use lib.Ieee.{Float}
 use borrow.Author.Tests.{ltb-false, eqb-true, not-false}
 use Rattle.places.proofs.PlaceLaws.{or_false}
 use Rattle.bspline.specs.Refusals.{pass}
-use Rattle.bspline.proofs.CheckLaws.{both_pass, test_fails}
+use Rattle.bspline.proofs.CheckLaws.{both_pass, test_fails, degree_pass}
 use Rattle.checks.proofs.CheckLaws.{unchosen_pass}
 use Rattle.checks.specs.declared.Shape.{Shape}
 use Rattle.checks.specs.declared.GridRoom.{GridRoom}
@@ -19,9 +18,6 @@ use Rattle.checks.specs.GridChecks.{Grid, grid_shape_verdict, grid_room_verdict,
 pub points-few : (rows cols : ℕ) → rows ≤ 64 → cols ≤ 64 → rows * cols ≤ 4096
 points-few rows cols h k = mul-le-mul {n₁ = rows} {m₁ = cols} {n₂ = 64} {m₂ = 64} h k
 
-pub places-few : (count degree : ℕ) → count ≤ 128 → degree ≤ 50 → count * (6 * degree + 24) ≤ 41472
-places-few count degree h k = mul-le-mul {n₁ = count} {m₁ = 6 * degree + 24} {n₂ = 128} {m₂ = 324} h (omega arith)
-
 pub grid-shaped : (places : ℕ) (h : Shape) → grid_shape_verdict places h ≡ pass → GridShaped places h
 unfolding grid_shape_verdict
 grid-shaped places h e =
@@ -30,16 +26,16 @@ grid-shaped places h e =
     let e₃ = both_pass _ _ e₂.1 in
     let e₄ = both_pass _ _ e₃.1 in
     let most = or_false _ _ (test_fails _ _ e₁.0) in
-    let u = or_false _ _ (test_fails _ _ e₂.0) in
-    let v = or_false _ _ (test_fails _ _ e₃.0) in
+    let u = degree_pass h.u e₂.0 in
+    let v = degree_pass h.v e₃.0 in
     let least = or_false _ _ (test_fails _ _ e₄.0) in
     record {
       rows_most = ltb-false _ _ most.0;
       cols_most = ltb-false _ _ most.1;
-      u_low = ltb-false _ _ u.0;
-      u_high = ltb-false _ _ u.1;
-      v_low = ltb-false _ _ v.0;
-      v_high = ltb-false _ _ v.1;
+      u_low = u.0;
+      u_high = u.1;
+      v_low = v.0;
+      v_high = v.1;
       rows_two = ltb-false _ _ least.0;
       cols_two = ltb-false _ _ least.1;
       whole = eqb-true _ _ (not-false _ (test_fails _ _ e₄.1));

@@ -1,8 +1,8 @@
 -- A grid as it is handed in, what a grid call is lent, and its checks. Definitions only.
 -- A grid is `rows` times `cols` points, row after row: u runs along the rows' numbers, v along a row.
 use Rattle.std.specs.Prelude.{ℕ, ◌+◌, ◌*◌, ◌≤◌, max, ◌≡◌, not, ◌||◌, List, eqb, ltb, length, Float}
-use Rattle.bspline.specs.declared.Refusal.TheVariants.{TooFewPoints, InvalidDegree, PoleCountMismatch, TooLarge, BufferTooShort}
-use Rattle.bspline.specs.Refusals.{stop_if, ◌next◌, factor_verdict, Verdict}
+use Rattle.bspline.specs.declared.Refusal.TheVariants.{TooFewPoints, PoleCountMismatch, TooLarge, BufferTooShort}
+use Rattle.bspline.specs.Refusals.{stop_if, ◌next◌, degree_verdict, factor_verdict, Verdict}
 use Rattle.knots.specs.declared.Metric.{Metric}
 use Rattle.checks.specs.declared.Shape.{Shape}
 use Rattle.checks.specs.declared.GridRoom.{GridRoom}
@@ -41,8 +41,8 @@ grid_lent poles u_flat u_knots u_mults v_flat v_knots v_mults work index =
 unfoldable pub grid_shape_verdict : ℕ → Shape → Verdict
 grid_shape_verdict places h =
     stop_if (ltb 64 h.rows || ltb 64 h.cols) TooLarge
-    next stop_if (ltb h.u 1 || ltb 25 h.u) InvalidDegree
-    next stop_if (ltb h.v 1 || ltb 25 h.v) InvalidDegree
+    next degree_verdict h.u
+    next degree_verdict h.v
     next stop_if (ltb h.rows 2 || ltb h.cols 2) TooFewPoints
     next stop_if (not (eqb places (3 * (h.rows * h.cols)))) PoleCountMismatch
 

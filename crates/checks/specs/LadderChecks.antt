@@ -1,8 +1,8 @@
 -- What a ladder call is lent, and its checks up to 10. Definitions only.
-use Rattle.std.specs.Prelude.{Ok, Err, ℕ, ◌+◌, ◌-◌, ◌*◌, ◌/◌, ◌%◌, ◌≤◌, ◌≡◌, not, ◌||◌, List, eqb, ltb, length, replicate, Float}
+use Rattle.std.specs.Prelude.{Ok, Err, ℕ, ◌+◌, ◌-◌, ◌*◌, ◌/◌, ◌%◌, ◌≤◌, ◌≡◌, not, List, eqb, ltb, length, replicate, Float}
 use Rattle.std.specs.List.{list_any}
-use Rattle.bspline.specs.declared.Refusal.TheVariants.{TooFewPoints, InvalidDegree, DegreeTooHigh, TooManyPoles, NotTriples, TooLarge, BufferTooShort, CoordinateOutOfRange}
-use Rattle.bspline.specs.Refusals.{stop_if, ◌next◌, outside, factor_verdict, Verdict}
+use Rattle.bspline.specs.declared.Refusal.TheVariants.{TooFewPoints, DegreeTooHigh, TooManyPoles, NotTriples, TooLarge, BufferTooShort, CoordinateOutOfRange}
+use Rattle.bspline.specs.Refusals.{stop_if, ◌next◌, outside, degree_verdict, factor_verdict, Verdict}
 use Rattle.knots.specs.declared.Metric.{Metric}
 use Rattle.checks.specs.declared.Room.{Room}
 use Rattle.checks.specs.declared.Aim.{Aim}
@@ -34,7 +34,7 @@ shape_verdict places degree =
     stop_if (not (eqb (places % 3) 0)) NotTriples
     next stop_if (ltb 1024 (places / 3)) TooLarge
     next stop_if (ltb (places / 3) 2) TooFewPoints
-    next stop_if (ltb degree 1 || ltb 25 degree) InvalidDegree
+    next degree_verdict degree
 
 -- 3 and 4 where a pole count is chosen (0 poles count as 1), for n points; 3 where none is
 unfoldable pub chosen_verdict : ℕ → ℕ → ℕ → Verdict

@@ -8,7 +8,7 @@ ghost use Rattle.checks.specs.Slices.{grid_in};
 use crate::given::Grid;
 use crate::ladder::{check_chosen, check_coordinates, check_unchosen};
 use crate::{GridRoom, Shape, SurfaceCall};
-use bspline::{Refusal, check_factor};
+use bspline::{Refusal, check_degree, check_factor};
 
 impl Shape {
     // The needed length of the work.
@@ -38,12 +38,8 @@ fn check_shape(places: usize, shape: Shape) -> Result<(), Refusal>
     if 64 < shape.rows || 64 < shape.cols {
         return Err(Refusal::TooLarge);
     }
-    if shape.u < 1 || 25 < shape.u {
-        return Err(Refusal::InvalidDegree);
-    }
-    if shape.v < 1 || 25 < shape.v {
-        return Err(Refusal::InvalidDegree);
-    }
+    check_degree(shape.u)?;
+    check_degree(shape.v)?;
     if shape.rows < 2 || shape.cols < 2 {
         return Err(Refusal::TooFewPoints);
     }

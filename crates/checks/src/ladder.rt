@@ -8,7 +8,7 @@ ghost use Rattle.checks.specs.LadderChecks.{shape_verdict, chosen_verdict, uncho
 
 use crate::given::Ladder;
 use crate::{Call, Room};
-use bspline::{Refusal, check_factor};
+use bspline::{Refusal, check_degree, check_factor};
 
 // 7, 8, 1, 2.
 fn check_shape(places: usize, degree: usize) -> Result<(), Refusal>
@@ -24,10 +24,7 @@ fn check_shape(places: usize, degree: usize) -> Result<(), Refusal>
     if places / 3 < 2 {
         return Err(Refusal::TooFewPoints);
     }
-    if degree < 1 || 25 < degree {
-        return Err(Refusal::InvalidDegree);
-    }
-    Ok(())
+    check_degree(degree)
 }
 
 // 3 and 4 where a pole count is chosen: 0 poles count as 1.

@@ -30,7 +30,7 @@ pub enum SurfaceCall {
 }
 
 // The lengths of a ladder call's lent slices.
-#[derive(Clone, Copy)]
+#[derive(Clone, Copy, Default)]
 pub struct Room {
     pub poles: usize,
     pub flat: usize,
@@ -50,7 +50,7 @@ pub struct Shape {
 }
 
 // The lengths of a grid call's lent slices.
-#[derive(Clone, Copy)]
+#[derive(Clone, Copy, Default)]
 pub struct GridRoom {
     pub poles: usize,
     pub uflat: usize,

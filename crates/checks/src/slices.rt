@@ -1,4 +1,5 @@
-// What is lent to a call for what it hands out: a fit's poles, its flat knots, and its distinct knots with their multiplicities.
+// What is lent to a call for what it hands out: a fit's poles, its flat knots, and its distinct knots with their multiplicities. Work and index go beside it, and a
+// grid's knots along u and v are no structs in it: a struct in a struct of lent slices needs a lifetime for each, six for a ladder and nine for a grid.
 use crate::{GridRoom, Room};
 
 // For a ladder call.

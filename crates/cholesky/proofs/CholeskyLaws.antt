@@ -3,21 +3,26 @@
 use mathlib.Core.Path.{◌≡◌, refl, sym, ◌∙◌, ap, subst}
 use mathlib.Core.Bool.{Bool, true, false, cond}
 use mathlib.Core.List.{List}
-use mathlib.Core.Logic.{⊎_elim}
-use Prim.Native.Nat.{ℕ, ◌+◌, ◌-◌, ◌*◌, ◌<◌, ◌≤◌}
+use mathlib.Core.Logic.{inl, inr, ⊎_elim}
+use Prim.Native.Nat.{ℕ, zero, suc, ◌+◌, ◌-◌, ◌*◌, ◌<◌, ◌≤◌}
 use native.Mathlib.Nat.{eq-or-lt_of_le}
+use native.Mathlib.Numerals.{add-one}
 use native.Mathlib.Omega.{arith}
+use lib.Dec.{T}
 use lib.ListN.{length, take, drop, length-set}
 use lib.Seq.{take-set-le, drop-set-lt, get_or-take, get_or-drop, get_or-set_same}
-use lib.Ieee.{Float, nan}
+use lib.Ieee.{Float, nan, le, lt, is_nan}
 use Rattle.places.specs.Loops.{each, outcome, each_while}
 use Rattle.places.proofs.LoopLaws.{each_step, each_split, each_same, each_cong, each_went, while-same}
-use Rattle.places.proofs.PlaceLaws.{row_inside}
-use Rattle.geometry.specs.Doubles.{◌⊖◌, ◌⊗◌, ◌⊘◌, at}
+use Rattle.places.proofs.PlaceLaws.{row_inside, or_false}
+use Rattle.geometry.specs.Doubles.{◌⊖◌, ◌⊗◌, ◌⊘◌, nought, at, larger}
 use Rattle.geometry.specs.Root.{sqrt_of}
+use Rattle.geometry.proofs.FloatOrder.{le_trans_float, le_not_lt, lt-le, le_right, le_self, le_lt_trans, holds, test, fails, refute}
+use Rattle.geometry.proofs.Folds.{zero-le-zero, largest-none, largest-more}
 use Rattle.bands.specs.Bands.{place, put_entry}
+use Rattle.bands.specs.Sums.{less_sum}
 use Rattle.cholesky.specs.Cholesky.{lower_entry, less_products, reduced_entry, factor_entry, factor_left, undetermined, factor_diagonal, factor_row, largest_diagonal, factor_symmetric_band}
-use Rattle.cholesky.specs.Textbook.{IsFactor}
+use Rattle.cholesky.specs.Textbook.{remaining, IsLargest, IsFactor}
 
 reduced_is : (h : ℕ) (l : List Float) (i j : ℕ) → reduced_entry h l i j ≡ less_products h l i j (lower_entry h l i j)
 unfolding reduced_entry
@@ -152,18 +157,64 @@ module _ (h : ℕ) (floor : Float) (n i : ℕ) (A L l m : List Float)
         ∙ get_or-set_same (before i) p _ nan (omega (arith, length_before i))
         ∙ ap sqrt_of (reduced_final i (omega arith) (omega arith))
 
+-- ---- in the textbook's words
+remaining_is : (h : ℕ) (A L : List Float) (i j : ℕ) → less_products h L i j (lower_entry h A i j) ≡ remaining h A L i j
+unfolding less_sum
+remaining_is h A L i j = refl
+
+determined : (floor s : Float) → undetermined floor s ≡ false → (is_nan s ≡ false) × (le s floor ≡ false)
+unfolding undetermined
+determined floor s e = or_false (is_nan s) (le s floor) e
+
+-- one entry more
+larger_is : (h n : ℕ) (A : List Float) (g : Float) → IsLargest h n A g → IsLargest h (n + 1) A (larger g (lower_entry h A n n))
+unfolding larger
+larger_is h n A g is = pick (lt g d) refl
+  where
+    d : Float
+    d = lower_entry h A n n
+
+    pick : (b : Bool) → lt g d ≡ b → IsLargest h (n + 1) A (cond b d g)
+    pick true e =
+        let up : T (le g d) = lt-le g d (test e) in
+        let self : T (le d d) = le_self d (le_right g d up) in
+        record {
+          from_nought = holds _ (le_trans_float nought g d (test is.from_nought) up);
+          none_above = λ i h. ⊎_elim
+              (λ z. rw z (fails _ (le_not_lt d d self)))
+              (λ l. fails _ (λ k. refute (is.none_above i l) (le_lt_trans g d _ up k)))
+              (eq-or-lt_of_le (omega arith));
+          one_of = inr (n, omega arith, refl);
+        }
+    pick false e =
+        record {
+          from_nought = is.from_nought;
+          none_above = λ i h. ⊎_elim (λ z. rw z e) (λ l. is.none_above i l) (eq-or-lt_of_le (omega arith));
+          one_of = ⊎_elim (λ z. inl z) (λ w. inr (w.0, omega (arith, w.1), w.2)) is.one_of;
+        }
+
+is_largest : (h n : ℕ) (A : List Float) → IsLargest h n A (largest_diagonal h n A)
+unfolding largest_diagonal
+is_largest h zero A = rw largest-none (record { from_nought = holds _ zero-le-zero; none_above = λ i h. absurd (omega arith); one_of = inl refl })
+is_largest h (suc n) A = rw (← add-one n, largest-more) (larger_is h n A _ (is_largest h n A))
+
 pub is_factor : (h n : ℕ) (relative : Float) (A L : List Float) → n * (h + 1) ≤ length A → factor_symmetric_band h n relative A ≡ outcome true L → IsFactor h n relative A L
 unfolding factor_symmetric_band
 is_factor h n relative A L big done =
     let floor : Float = relative ⊗ largest_diagonal h n A in
+    let pivot : (i : ℕ) → i < n → (is_nan (remaining h A L i i) ≡ false) × (le (remaining h A L i i) floor ≡ false) =
+    λ i a.
+    let g = each_went (factor_row h floor) i n A L a done in
+    rw (remaining_is h A L i i) at (determined floor _ (pivot-entry h floor n i A L g.0 g.1 g.2 g.3 g.4)) in
     record {
       left = λ i j a b c.
           let g = each_went (factor_row h floor) i n A L a done in
-          left-entry h floor n i A L g.0 g.1 g.2 g.3 g.4 (omega (arith, row_inside i n (h + 1) a)) j b c;
+          left-entry h floor n i A L g.0 g.1 g.2 g.3 g.4 (omega (arith, row_inside i n (h + 1) a)) j b c ∙ rw (remaining_is h A L i j);
       diagonal = λ i a.
           let g = each_went (factor_row h floor) i n A L a done in
-          diagonal-entry h floor n i A L g.0 g.1 g.2 g.3 g.4 (omega (arith, row_inside i n (h + 1) a));
-      pivots = λ i a.
-          let g = each_went (factor_row h floor) i n A L a done in
-          pivot-entry h floor n i A L g.0 g.1 g.2 g.3 g.4;
+          diagonal-entry h floor n i A L g.0 g.1 g.2 g.3 g.4 (omega (arith, row_inside i n (h + 1) a)) ∙ ap sqrt_of (remaining_is h A L i i);
+      number = λ i a. (pivot i a).0;
+      largest = largest_diagonal h n A;
+      is_largest = is_largest h n A;
+      above = λ i a. (pivot i a).1;
     }

@@ -1,6 +1,7 @@
 // Cholesky's factor of half-width 3, that of least squares by cubics. What a row needs of the three rows above it is carried along, so that nothing waits for a
-// place that was written just before. One function for every width took 1.21 to 1.31 of the Rust's time at this width, and this one takes 0.80 to 0.92.
-ghost use Rattle.std.specs.Prelude.{◌≡◌, ◌+◌, ◌*◌, ◌≤◌, length};
+// place that was written just before. One function for every width takes 1.51 to 1.57 of the Rust's time at this width, and this one 1.07 to 1.14. Rows go by
+// their numbers, as in the crate's head.
+ghost use Rattle.std.specs.Prelude.{◌≡◌, ◌+◌, ◌*◌, ◌≤◌, length, is_some};
 ghost use Rattle.places.specs.Loops.{outcome, each_while};
 ghost use Rattle.geometry.specs.Root.{sqrt_of};
 ghost use Rattle.bands.specs.Bands.{put_entry};
@@ -81,30 +82,31 @@ fn first_triangle(lower: &[f64]) -> Triangle
     }
 }
 
-// The rows of L from row 3 on; false where a pivot is undetermined.
+// The rows of L from row 3 on; none where a pivot is undetermined.
 #[tactic(auto, using(crate::proofs::Loops::stops), unfolding(crate::specs::Cholesky::factor_row, crate::specs::Cholesky::factor_diagonal))]
-fn factor_rest(lower: &mut [f64], n: usize, floor: f64) -> bool
+fn factor_rest(lower: &mut [f64], n: usize, floor: f64) -> Option<()>
     requires { (3 ≤ n) × (n * 4 ≤ length lower.old) }
-    ensures { outcome result lower.new ≡ each_while 3 n (factor_row 3 floor) lower.old }
+    ensures { outcome (is_some result) lower.new ≡ each_while 3 n (factor_row 3 floor) lower.old }
 {
     let mut above = first_triangle(lower);
     for i in 3..n {
         let row = left_ahead(lower, i, above);
         if super::is_undetermined(floor, row.rest) {
-            return false;
+            return None;
         }
         above = put_diagonal(lower, i, row, above);
     }
-    true
+    Some(())
 }
 
 // All n rows; the first three, which reach fewer columns, by the way for every width.
-pub fn factor_carried(lower: &mut [f64], n: usize, floor: f64) -> bool
+pub fn factor_carried(lower: &mut [f64], n: usize, floor: f64) -> Option<()>
     requires { n * 4 ≤ length lower.old }
-    ensures { outcome result lower.new ≡ each_while 0 n (factor_row 3 floor) lower.old }
+    ensures { outcome (is_some result) lower.new ≡ each_while 0 n (factor_row 3 floor) lower.old }
 {
     if n < 3 {
         return super::factor_rows(lower, 3, n, floor);
     }
-    super::factor_rows(lower, 3, 3, floor) && factor_rest(lower, n, floor)
+    super::factor_rows(lower, 3, 3, floor)?;
+    factor_rest(lower, n, floor)
 }

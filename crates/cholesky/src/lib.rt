@@ -1,11 +1,12 @@
 // Cholesky's factor L of a symmetric band matrix, A = L L', in the place of its lower half-band, and L L' x = b. Rows go by their
-// numbers: each reads the ones before it or behind it by theirs.
+// numbers: each reads the ones before it or behind it by theirs, and after `chunks_mut` or `get_mut` nothing is known of what a row that was written holds. A matrix, its
+// poles and their sizes are parameters: the one is read while the other is written.
 #![tactic(auto)]
 
 pub mod carried;
 pub mod together;
 
-ghost use Rattle.std.specs.Prelude.{◌≡◌, ◌+◌, ◌*◌, ◌≤◌, ◌<◌, length};
+ghost use Rattle.std.specs.Prelude.{◌≡◌, ◌+◌, ◌*◌, ◌≤◌, ◌<◌, length, is_some};
 ghost use Rattle.places.specs.Loops.{each, down, outcome, each_while};
 ghost use Rattle.cholesky.specs.Cholesky.{reduced_entry, factor_entry, factor_left, undetermined, factor_row, largest_diagonal, factor_symmetric_band, forward_row, back_point, back_row, substitute_symmetric_band};
 ghost use Rattle.bands.specs.Shapes.{HasRow, HasSystem};
@@ -57,20 +58,20 @@ pub fn is_undetermined(floor: f64, sum: f64) -> bool
     sum.is_nan() || sum <= floor
 }
 
-// Row i of L, in place; false where its pivot is undetermined.
+// Row i of L, in place; none where its pivot is undetermined.
 #[tactic(auto, unfolding(crate::specs::Cholesky::factor_row, crate::specs::Cholesky::factor_diagonal))]
-fn factor_row(lower: &mut [f64], h: usize, i: usize, floor: f64) -> bool
+fn factor_row(lower: &mut [f64], h: usize, i: usize, floor: f64) -> Option<()>
     requires { HasRow (h + 1) lower.old i }
-    ensures { outcome result lower.new ≡ factor_row h floor i lower.old }
+    ensures { outcome (is_some result) lower.new ≡ factor_row h floor i lower.old }
 {
     factor_left(lower, h, i);
     let sum = reduced_entry(lower, h, i, i);
     if is_undetermined(floor, sum) {
-        return false;
+        return None;
     }
     let root = geometry::root::sqrt(sum);
     bands::put_band_entry(lower, h + 1, h, i, i, root);
-    true
+    Some(())
 }
 
 // The largest of 0 and the n diagonal entries, NaN passed over.
@@ -87,26 +88,24 @@ fn largest_diagonal(lower: &[f64], h: usize, n: usize) -> f64
     largest
 }
 
-// The first n rows of L, in place; false where a pivot is undetermined.
+// The first n rows of L, in place; none where a pivot is undetermined.
 #[tactic(auto, using(crate::proofs::Loops::stops))]
-pub fn factor_rows(lower: &mut [f64], h: usize, n: usize, floor: f64) -> bool
+pub fn factor_rows(lower: &mut [f64], h: usize, n: usize, floor: f64) -> Option<()>
     requires { (h ≤ 25) × (n * (h + 1) ≤ length lower.old) }
-    ensures { outcome result lower.new ≡ each_while 0 n (factor_row h floor) lower.old }
+    ensures { outcome (is_some result) lower.new ≡ each_while 0 n (factor_row h floor) lower.old }
 {
     for i in 0..n {
-        if !factor_row(lower, h, i, floor) {
-            return false;
-        }
+        factor_row(lower, h, i, floor)?;
     }
-    true
+    Some(())
 }
 
-// Cholesky's factor of the n rows of the lower half-band of a symmetric matrix, in place; false where a pivot is NaN or
-// falls to `relative` times the largest diagonal or below. A bool, as the Rust has it: which of the two it was, nobody asks.
+// Cholesky's factor of the n rows of the lower half-band of a symmetric matrix, in place; none where a pivot is NaN or
+// falls to `relative` times the largest diagonal or below.
 #[tactic(auto, unfolding(crate::specs::Cholesky::factor_symmetric_band))]
-pub fn factor_symmetric_band(lower: &mut [f64], h: usize, n: usize, relative: f64) -> bool
+pub fn factor_symmetric_band(lower: &mut [f64], h: usize, n: usize, relative: f64) -> Option<()>
     requires { (h ≤ 25) × (n * (h + 1) ≤ length lower.old) }
-    ensures { outcome result lower.new ≡ factor_symmetric_band h n relative lower.old }
+    ensures { outcome (is_some result) lower.new ≡ factor_symmetric_band h n relative lower.old }
 {
     let floor = relative * largest_diagonal(lower, h, n);
     if h == 3 {

@@ -11,11 +11,6 @@ use Rattle.fitting.specs.declared.flat.FlatKnots.{FlatKnots}
 abbrev pub flat_of : FlatKnots → List Float
 flat_of k = take k.count k.places.now
 
--- l flat knots, these, in the first of the places
-pub record Put (places places' : List Float) (l : ℕ) (flat : List Float) : Type 0 where
-  pub knots : take l places' ≡ flat
-  pub long : length places' ≡ length places
-
 -- l flat knots, these, in the same places
 pub record Laid (k k' : FlatKnots) (l : ℕ) (flat : List Float) : Type 0 where
   pub knots : flat_of k' ≡ flat

@@ -1,4 +1,5 @@
-// Single fits of a direction: least squares on given or on spread knots, and interpolation.
+// Single fits of a direction: least squares on given or on spread knots, and interpolation. A job and its regions go beside each other: of a struct of both each function
+// would promise that the job stays, where it asks for the job's regions now.
 ghost use Rattle.std.specs.Prelude.{◌≡◌, ◌≤◌, ◌<◌, length};
 ghost use Rattle.fitting.specs.Jobs.{HasRegions, HasKnots, Attempts, AttemptsSpread, PassesThrough};
 
@@ -12,7 +13,7 @@ use tables::Measured;
 use tables::deviations::{grid_deviations, ladder_deviations, row_deviations};
 
 impl Fitted<'_> {
-    ghost use Rattle.std.specs.Prelude.{◌≡◌, ◌+◌, ◌*◌, ◌≤◌, length};
+    ghost use Rattle.std.specs.Prelude.{◌≡◌, ◌+◌, ◌*◌, ◌≤◌, length, is_some};
     ghost use Rattle.tables.specs.Layout.{FillsTable, Filled};
     ghost use Rattle.fitting.specs.Flat.{flat_of};
     ghost use Rattle.fitting.specs.Solves.{HasLines, Solved, Passed};
@@ -26,10 +27,10 @@ impl Fitted<'_> {
         self.table.fill(&knots.places[..knots.count], params);
     }
 
-    // Its least-squares poles; whether there are any.
-    fn solve(&mut self, lines: Lines, band: &mut [f64]) -> bool
+    // Its least-squares poles, if there are any.
+    fn solve(&mut self, lines: Lines, band: &mut [f64]) -> Option<()>
         requires { HasLines self.old lines (length band.old) }
-        ensures { Solved self.old self.new lines.entry result }
+        ensures { Solved self.old self.new lines.entry (is_some result) }
     {
         let m = self.table.poles;
         let size = m * (self.table.degree + 1);
@@ -66,7 +67,7 @@ impl Job<'_, '_, '_, '_> {
     ghost use Rattle.fitting.specs.Solves.{HasFit};
     ghost use Rattle.fitting.specs.Jobs.{direction_of, distances_on};
 
-    // The points against a fit: the square of each parameter's deviation in its place.
+    // The points against a fit, by what the lines are: the square of each parameter's deviation in its place.
     #[tactic(auto, unfolding(crate::specs::Solves::curve_places, crate::specs::Jobs::direction_of, crate::specs::Jobs::distances_by, crate::specs::Jobs::deviations_by))]
     fn measure(self, fit: &Fitted, curve: &mut [f64], squares: &mut [f64]) -> Measured
         requires { HasFit self fit.now (length curve.old) (length squares.old) }
@@ -95,9 +96,7 @@ pub fn attempt(job: Job, at: &mut Regions) -> Option<Measured>
     ensures fresh_stays { at.new.fresh.now ≡ at.old.fresh.now }
 {
     at.fit.fill(&at.knots, job.params);
-    if !at.fit.solve(job.lines, at.band) {
-        return None;
-    }
+    at.fit.solve(job.lines, at.band)?;
     Some(job.measure(&at.fit, at.curve, at.squares))
 }
 

@@ -9,6 +9,7 @@ use search::Search;
 use tables::Measured;
 
 // Document 01's test of a pole count on spread knots. A ladder's distances are all at most the tolerance where none is NaN and the largest is.
+// It answers yes or no, which is all that the search is told: an Option of nothing would be asked for the same.
 #[tactic(auto, using(crate::proofs::CountLaws::tested_unfitted, crate::proofs::CountLaws::tested_unread, crate::proofs::CountLaws::tested_ladder, crate::proofs::CountLaws::tested_grid))]
 pub fn passes(job: Job, at: &mut Regions, tolerance: f64, m: usize) -> bool
     requires { HasRegions job at.old × (job.degree < m) × (m ≤ length job.params.now) }
@@ -37,7 +38,7 @@ pub fn fit_with_fewest_poles(
     ensures found { FewestFound job.entry tolerance last at.new result }
     ensures fresh_stays { at.new.fresh.now ≡ at.old.fresh.now }
 {
-    // no iterator: what comes next follows from what the last try is told to have come to
+    // no iterator: what comes next follows from what the last try is told to have come to (document 01: each try takes the search state and hands the next one back)
     let mut s = Search::new(job.degree, last);
     while let Some(m) = s.next() {
         s = if passes(job, at, tolerance, m) {

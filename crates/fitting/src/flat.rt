@@ -1,48 +1,14 @@
-// The flat knots of a fit: each of these functions lays others in their place.
+// The flat knots of a fit: each of these functions lays others in their place. The places are lent as `[0..l]`: of a slice field lent as `[..l]` the checker keeps
+// the length alone.
 ghost use Rattle.std.specs.Prelude.{◌≡◌, ◌+◌, ◌*◌, ◌≤◌, length};
 ghost use Rattle.knots.specs.Knots.{bezier_knots, averaged_knots, approximation_knots};
 ghost use Rattle.knots.specs.Calls.{KnotRoom};
-ghost use Rattle.fitting.specs.Flat.{Put, Laid, HasRound, Refined};
+ghost use Rattle.fitting.specs.Flat.{Laid, HasRound, Refined};
 
 use crate::Job;
 use tables::basis_table::Table;
 
-// The flat knots of a single Bézier piece, the first of the places. How many.
-fn put_bezier(degree: usize, places: &mut [f64]) -> usize
-    requires { (degree ≤ 25) × (2 * degree + 2 ≤ length places.old) }
-    ensures count { result ≡ 2 * degree + 2 }
-    ensures put { Put places.old places.new result (bezier_knots degree) }
-{
-    let l = 2 * degree + 2;
-    knots::clamped::bezier_knots(degree, &mut places[..l]);
-    l
-}
-
-// Those for as many poles as parameters, averaged.
-fn put_averaged(params: &[f64], degree: usize, places: &mut [f64]) -> usize
-    requires room { KnotRoom (length params.now) (length params.now) degree (length params.now + degree + 1) }
-    requires long { length params.now + degree + 1 ≤ length places.old }
-    ensures count { result ≡ length params.now + degree + 1 }
-    ensures put { Put places.old places.new result (averaged_knots params.now degree) }
-{
-    let l = params.len() + degree + 1;
-    knots::clamped::averaged_knots(params, degree, &mut places[..l]);
-    l
-}
-
-// Those for so many poles, spread over the parameters.
-fn put_spread(params: &[f64], poles: usize, degree: usize, places: &mut [f64]) -> usize
-    requires room { KnotRoom (length params.now) poles degree (poles + degree + 1) }
-    requires long { poles + degree + 1 ≤ length places.old }
-    ensures count { result ≡ poles + degree + 1 }
-    ensures put { Put places.old places.new result (approximation_knots params.now poles degree) }
-{
-    let l = poles + degree + 1;
-    knots::clamped::approximation_knots(params, poles, degree, &mut places[..l]);
-    l
-}
-
-// Flat knots: the first `count` of the places.
+// Flat knots: the first `count` of the places, which are lent (a Vec would take them from the heap).
 #[derive(Drop)]
 pub struct FlatKnots<'a> {
     pub places: &'a mut [f64],
@@ -55,7 +21,9 @@ impl FlatKnots<'_> {
         requires { (degree ≤ 25) × (2 * degree + 2 ≤ length self.old.places.now) }
         ensures { Laid self.old self.new (2 * degree + 2) (bezier_knots degree) }
     {
-        self.count = put_bezier(degree, self.places);
+        let l = 2 * degree + 2;
+        knots::clamped::bezier_knots(degree, &mut self.places[0..l]);
+        self.count = l;
     }
 
     // Those for as many poles as parameters, averaged.
@@ -64,7 +32,9 @@ impl FlatKnots<'_> {
         requires long { length params.now + degree + 1 ≤ length self.old.places.now }
         ensures { Laid self.old self.new (length params.now + degree + 1) (averaged_knots params.now degree) }
     {
-        self.count = put_averaged(params, degree, self.places);
+        let l = params.len() + degree + 1;
+        knots::clamped::averaged_knots(params, degree, &mut self.places[0..l]);
+        self.count = l;
     }
 
     // Those for so many poles, spread over the parameters.
@@ -73,7 +43,9 @@ impl FlatKnots<'_> {
         requires long { poles + degree + 1 ≤ length self.old.places.now }
         ensures { Laid self.old self.new (poles + degree + 1) (approximation_knots params.now poles degree) }
     {
-        self.count = put_spread(params, poles, degree, self.places);
+        let l = poles + degree + 1;
+        knots::clamped::approximation_knots(params, poles, degree, &mut self.places[0..l]);
+        self.count = l;
     }
 
     // Those of the next round of a refinement, by the squares of the parameters' deviations, of which the largest deviation is `most`; none where no span is

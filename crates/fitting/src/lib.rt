@@ -12,6 +12,7 @@ ghost use Rattle.fitting.specs.Given.{HasJob};
 ghost use Rattle.fitting.specs.Marks.{largest_deviation, mark_number};
 
 use knots::lines::Lines;
+use room::Sizes;
 use tables::basis_table::Table;
 
 // Which step gave the knots and poles that are handed out, with the largest computed deviation: document 01's refined, spread, interpolated and chosen.
@@ -80,4 +81,28 @@ pub struct Job<'a, 'b, 'c, 'd> {
     pub lines: Lines<'b>,
     pub kind: Kind<'c, 'd>,
     pub ghost inside: { HasJob degree params.now lines kind },
+}
+
+impl Job<'_, '_, '_, '_> {
+    ghost use Rattle.std.specs.Prelude.{◌≡◌};
+    ghost use Rattle.fitting.specs.Room.{SmallSizes};
+    ghost use Rattle.fitting.specs.Jobs.{sizes_of};
+
+    // How large the places are that its fits are made in: those of a curve's poles are for the columns alone.
+    #[tactic(auto, unfolding(crate::specs::Solves::curve_places))]
+    pub fn sizes(self) -> Sizes
+        ensures sizes { result ≡ sizes_of self.entry }
+        ensures small { SmallSizes result }
+    {
+        let curve = match self.kind {
+            Kind::Ladder | Kind::Rows => 0,
+            Kind::Columns(s) => 3 * s.across.poles,
+        };
+        Sizes {
+            degree: self.degree,
+            count: self.params.len(),
+            lines: self.lines.lines,
+            curve,
+        }
+    }
 }

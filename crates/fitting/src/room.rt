@@ -20,7 +20,8 @@ pub struct Regions<'a> {
     pub fresh: &'a mut [f64],
 }
 
-// How large they are: for a degree, so many parameters and lines, and so many places of a curve's poles.
+// How large they are: for a degree, so many parameters and lines, and so many places of a curve's poles. That they are small is asked by each function and no ghost field:
+// definitions write sizes of any numbers.
 #[derive(Clone, Copy)]
 pub struct Sizes {
     pub degree: usize,

@@ -6,7 +6,9 @@ pub mod PointLaws
 pub mod FactorLaws
 pub mod SortLaws
 pub mod Correct
+pub mod OrderLaws
 pub mod RootOrder
+pub mod SquareRootLaws
 pub mod Roots
 pub mod Examples
 pub mod Whole

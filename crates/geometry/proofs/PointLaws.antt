@@ -1,9 +1,11 @@
 -- Distances of points, and points in a list of three places a point. Assumes nothing.
-use Rattle.std.proofs.Common.{◌≡◌, ℕ, zero, suc, ◌+◌, ◌*◌, ◌<◌, ◌≤◌, T, ◌⊎◌, List, length, set, refl, ◌∙◌, ⊎_elim, add-one, arith, length-set, get_or-set_other, get_or-set_same}
+use Rattle.std.proofs.Common.{◌≡◌, ℕ, zero, suc, ◌+◌, ◌*◌, ◌<◌, ◌≤◌, Bool, cond, T, ◌⊎◌, List, length, set, sym, refl, ap, ◌∙◌, ⊎_elim, add-one, arith, length-set, get_or-set_other, get_or-set_same}
 use lib.Ieee.{Float, nan, binary64, fits}
 use lib.Ieee.Fits.{add-fits}
 use Rattle.geometry.specs.declared.Point.{Point}
-use Rattle.geometry.specs.Doubles.{◌⊗◌, at, sum_below}
+use Rattle.places.specs.Loops.{each}
+use Rattle.places.proofs.LoopLaws.{each_done, each_last}
+use Rattle.geometry.specs.Doubles.{◌⊕◌, ◌⊗◌, nought, at, sum_below, sum_over}
 use Rattle.geometry.specs.Points.{squared_distance, distance, point_at, put_point, plus_scaled, weighted}
 use Rattle.geometry.specs.Root.{sqrt_of}
 
@@ -56,6 +58,15 @@ pub sum_same : (n : ℕ) (f g : ℕ → Float) → ((k : ℕ) → k < n → f k 
 unfolding sum_below
 sum_same zero f g e = refl
 sum_same (suc n) f g e = rw (sum_same n f g (λ k h. e k (omega arith)), e n (omega arith))
+
+-- the sum over those that have p, as a loop
+pub sum_over_each : (n : ℕ) (p : ℕ → Bool) (f : ℕ → Float) → sum_over n p f ≡ each 0 n (λ k s. cond (p k) (s ⊕ f k) s) nought
+unfolding sum_over
+sum_over_each zero p f = sym (each_done 0 0 (λ k s. cond (p k) (s ⊕ f k) s) nought (omega arith))
+sum_over_each (suc n) p f =
+    ap (λ (s : Float). cond (p n) (s ⊕ f n) s) (sum_over_each n p f)
+    ∙ sym (each_last 0 n (λ k s. cond (p k) (s ⊕ f k) s) nought (omega arith))
+    ∙ ap (λ (m : ℕ). each 0 m (λ k s. cond (p k) (s ⊕ f k) s) nought) (add-one n)
 
 pub weighted-same : (n : ℕ) (v w : ℕ → Float) (p q : ℕ → Point) → ((k : ℕ) → k < n → v k ≡ w k) → ((k : ℕ) → k < n → p k ≡ q k) → weighted n v p ≡ weighted n w q
 unfolding weighted

@@ -107,7 +107,7 @@ below_top nan p = absurd p
 below_top (inf s) p = absurd p
 below_top (fin s m e) p = tt
 
-above_zero : (s : Bool) (e : ℤ) (x : Float) → T (positive x) → T (lt (fin s zero e) x)
+pub above_zero : (s : Bool) (e : ℤ) (x : Float) → T (positive x) → T (lt (fin s zero e) x)
 unfolding lt
 above_zero s e nan p = absurd p
 above_zero s e (inf t) p = absurd p
@@ -115,7 +115,7 @@ above_zero s e (fin true m d) p = absurd p
 above_zero true e (fin false m d) p = let l = mul-pos (mul-pos (ltb→lt 0 m p) (up_pos d)) (down_pos e) in lt→ltb 0 (0 * up e * down d + m * up d * down e) (omega arith)
 above_zero false e (fin false m d) p = let l = mul-pos (mul-pos (ltb→lt 0 m p) (up_pos d)) (down_pos e) in lt→ltb (0 * up e * down d) (m * up d * down e) (omega arith)
 
-negative : (m : ℕ) (e : ℤ) → T (lt (fin true (suc m) e) nought)
+pub negative : (m : ℕ) (e : ℤ) → T (lt (fin true (suc m) e) nought)
 unfolding lt of_bits
 negative m e = let l = mul-pos (mul-pos (zero-lt-suc m) (up_pos e)) (zero-lt-suc 0) in lt→ltb 0 (suc m * up e * 1 + 0 * 1 * down e) (omega arith)
 

@@ -1,25 +1,24 @@
 -- Doubles from 0 to 1 without a minus sign: their order and ranks, halfway between two of them, and a number times the reciprocal of one that is not smaller. Assumes nothing.
-use mathlib.Core.Path.{◌≡◌, refl, sym, subst}
+use mathlib.Core.Path.{◌≡◌, refl, sym, subst, ap}
 use mathlib.Core.Logic.{◌⊎◌, inl, inr}
 use Prim.Native.Nat.{ℕ, zero, suc, ◌+◌, ◌-◌, ◌*◌, ◌/◌, ◌^◌, ◌≤◌, ◌<◌, zero-le}
-use native.Mathlib.Nat.{le_refl, le_trans, le_of_eq, lt_of_lt_of_le, not-le_of_lt, eq-or-lt_of_le, mul-pos, mul_left_comm, mul-le-mul, mul-le-mul_right, le_of_mul-le-mul_right, le-div_iff_mul-le}
+use native.Mathlib.Nat.{le_antisymm, le_of_lt, le_refl, le_trans, le_of_eq, lt_of_lt_of_le, not-le_of_lt, mul-pos, mul_left_comm, mul-le-mul, mul-le-mul_right, le_of_mul-le-mul_right, le-div_iff_mul-le}
 use native.Mathlib.Omega.{arith}
 use mathlib.Core.Bool.{true, false}
-use borrow.Author.Tests.{lt-ltb}
 use lib.Dec.{T, lit<, lit≤}
 use lib.Pow.{pow_pos, pow_mono}
 use lib.Ieee.{Float, nan, inf, fin, binary64, size, round, le, fits, is_nan, of_bits, to_bits}
 use lib.Ieee.Bits.{of_bits-fits}
-use lib.Ieee.Digits.{size-lt, size-le}
-use lib.Ieee.Fits.{mul-fits, kept-lt}
+use lib.Ieee.Digits.{size-lt}
+use lib.Ieee.Fits.{mul-fits}
 use lib.Ieee.Order.{drop, kept, round_mono}
 use lib.Ieee.Scale.{grid}
 use Rattle.geometry.specs.Doubles.{◌⊕◌, ◌⊗◌, ◌⊘◌, half, nought, one}
 use Rattle.geometry.specs.Nearest.{units_in_one, in_units}
 use Rattle.geometry.specs.Order.{rank_of}
 use Rattle.geometry.proofs.ExactLaws.{Exact, exact_units, exact_same, nought-exact, one-exact, exact-le, le-exact, round_exact, round-most, mul-exact, div-exact}
-use Rattle.geometry.proofs.FloatOrder.{holds}
-use Rattle.geometry.proofs.Patterns.{to_bits_is}
+use Rattle.geometry.proofs.FloatOrder.{lt-or-le, le_left, le_right, holds, test}
+use Rattle.geometry.proofs.OrderLaws.{total_order}
 use Rattle.geometry.proofs.RoundingLaws.{closest-half, before}
 use Rattle.geometry.proofs.SizeLaws.{sum-exact}
 use Rattle.geometry.proofs.UnitLaws.{units_pos}
@@ -83,29 +82,27 @@ pub one_rank : rank_of one ≡ 13830554455654793216
 unfolding rank_of to_bits of_bits
 one_rank = refl
 
-rank_is : (x : Float) → to_bits binary64 x < 4607182418800017408 → rank_of x ≡ 9223372036854775808 + to_bits binary64 x
-unfolding rank_of
-rank_is x h = rw (lt-ltb (to_bits binary64 x) 9223372036854775808 (omega arith))
-
 pub share-ranked : (v : Float) → Share v → (rank_of nought ≤ rank_of v) × ((v ≡ one) ⊎ (rank_of v < rank_of one))
-share-ranked v h = go (eq-or-lt_of_le h.most)
+share-ranked v h = (
+  elim (lt-or-le v nought (le_right nought v from) (le_left nought v from)) [ inl l ↦ le_of_lt (total_order.less nought v nought-share.held h.held (holds _ l)) | inr k ↦ lowest k ],
+  elim (lt-or-le one v (le_right v one to) (le_left v one to)) [ inl l ↦ inr (total_order.less v one h.held one-share.held (holds _ l)) | inr k ↦ inl (highest k) ],
+)
   where
-    n : ℕ
-    n = in_units v
+    from : T (le nought v)
+    from = test (share-from_zero v h)
 
-    go : (n ≡ units_in_one) ⊎ (n < units_in_one) → (rank_of nought ≤ rank_of v) × ((v ≡ one) ⊎ (rank_of v < rank_of one))
-    go (inl e) =
-        let is : v ≡ one = exact_same v one units_in_one h.held one-share.held (subst (Exact v) e h.exact) one-exact in
-        (subst (λ (x : Float). rank_of nought ≤ rank_of x) (sym is) (omega (arith, nought_rank, one_rank)), inl is)
-    go (inr l) =
-        let k : size n ≤ 1074 = size-le n 1074 l in
-        let q : n / 2 ^ (size n - 53) < 2 ^ 53 = kept-lt 53 n in
-        let b : to_bits binary64 v < 4607182418800017408 = low (to_bits binary64 v) (size n) (n / 2 ^ (size n - 53)) (to_bits_is v n h.exact) k q in
-        let r = rank_is v b in
-        (omega (arith, nought_rank, r), inr (omega (arith, one_rank, r)))
-      where
-        low : (b s q : ℕ) → b ≡ (s - 53) * 2 ^ 52 + q → s ≤ 1074 → q < 2 ^ 53 → b < 4607182418800017408
-        low b s q e k l = omega arith
+    to : T (le v one)
+    to = test (share-to_one v h)
+
+    lowest : T (le v nought) → rank_of nought ≤ rank_of v
+    lowest k =
+        let z : in_units v ≡ 0 = omega (arith, le-exact v nought (in_units v) 0 h.exact nought-exact k) in
+        le_of_eq (ap rank_of (exact_same nought v 0 nought-share.held h.held nought-exact (subst (Exact v) z h.exact)))
+
+    highest : T (le one v) → v ≡ one
+    highest k =
+        let e : in_units v ≡ units_in_one = le_antisymm h.most (le-exact one v units_in_one (in_units v) one-exact h.exact k) in
+        exact_same v one units_in_one h.held one-share.held (subst (Exact v) e h.exact) one-exact
 
 -- ---- a number times the reciprocal of one that is not smaller is at most 1, after the two roundings
 

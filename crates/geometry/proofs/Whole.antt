@@ -122,9 +122,6 @@ module _ (n q rest k : ℕ) (r : RootOf n q rest) (lo : 2 ^ 52 ≤ q) (hi : q < 
       ap (λ (x : ℕ). nearest x (compare (4 * (n * (2 ^ k * 2 ^ k))) ((2 * x + 1) * 2 ^ k * ((2 * x + 1) * 2 ^ k)))) e
       ∙ go (ltb q rest) (ltb→lt q rest) (nltb→le q rest)
     where
-      side : ℕ
-      side = (2 * q + 1) * 2 ^ k * ((2 * q + 1) * 2 ^ k)
-
       go : (t : Bool) → (T t → q < rest) → (T (not t) → rest ≤ q) → nearest q (compare (4 * (n * (2 ^ k * 2 ^ k))) ((2 * q + 1) * 2 ^ k * ((2 * q + 1) * 2 ^ k))) ≡ cond t (q + 1) q
       go true h g =
           let p = 2 ^ k in

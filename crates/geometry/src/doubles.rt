@@ -1,4 +1,5 @@
-// The methods of f64 that the language lacks: the larger of two and of a list, finiteness, and the cut to a whole number.
+// The larger of two and of a list, which are the program's own; finiteness and the cut to a whole number, which are the library's, with the definitions that
+// contracts cite.
 ghost use Rattle.std.specs.Prelude.{◌≡◌};
 ghost use Rattle.geometry.specs.Doubles.{larger, largest, is_finite, whole_part};
 

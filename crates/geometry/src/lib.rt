@@ -1,4 +1,4 @@
-// Doubles, their square root and order, and points: document 01, part 1 (src/point.rs, src/tolerance.rs, and the methods of f64 that the language lacks).
+// Doubles, their square root and order, and points: document 01, part 1 (src/point.rs, src/tolerance.rs, and the methods of f64 that it names).
 #![tactic(auto)]
 
 pub mod doubles;

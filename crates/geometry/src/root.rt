@@ -35,7 +35,7 @@ fn heron(m: u64, g: u64) -> u64
     (g + m / g) / 2
 }
 
-// The root of m. Two steps from the guess are the root, or one more where m is just below a square.
+// The root of m. Two steps from the guess are the root, or one more where m is just below a square; a guess, no index, is lowered.
 fn short_root(m: u64) -> Root
     requires { (2 ^ 52 ≤ m) × (m < 2 ^ 54) }
     ensures { RootOf m result.q result.rest }

@@ -74,39 +74,38 @@ columns-sized {g} {rows} {us} {j} o c n =
     sized-same _ _ _ _ _ _ _ _ c.degree (ap length c.params ∙ n) refl (curve-long j.kind rows j.lines.lines g.points.now c.kind (o.poles ∙ sym c.lines))
 
 -- regions of a job's sizes, with room for any fit of it
-module _ (j : Job) {z : Sizes} (e : z ≡ sizes_of j) where
-  sized_regions : {at : Regions} → HasSizes z at → HasRegions j at
-  sized_regions {at} h = subst (λ (y : Sizes). HasSizes y at) e h
+module _ {j : Job} {z : Sizes} (e : z ≡ sizes_of j) {at : Regions} {s : SavedFit} (h : HasSizes z at)
+    (flat : length s.flat.now ≡ z.count + z.degree + 1) (poles : length s.poles.now ≡ 3 * (z.lines * z.count)) where
+  sized : HasRegions j at × HasSaved j s
+  sized = let a = rw e at flat in let b = rw e at poles in (subst (λ (y : Sizes). HasSizes y at) e h, record { flat = omega (arith, a); poles = omega (arith, b) })
 
-  sized_saved : {s : SavedFit} → length s.flat.now ≡ z.count + z.degree + 1 → length s.poles.now ≡ 3 * (z.lines * z.count) → HasSaved j s
-  sized_saved a b = let f = rw e at a in let p = rw e at b in record { flat = omega (arith, f); poles = omega (arith, p) }
+  module _ {call : SurfaceCall} {g : Grid} {u v : ℕ} (p : HasParams call g u v) {aim : Aim} where
+    pub rows_asked : {vs : List Float} → RowsJob g vs j → length vs ≡ v → aim ≡ row_aim call → HasRegions j at × HasSaved j s × (aim_verdict aim (length j.params.now) j.degree ≡ pass)
+    rows_asked {vs} r n a =
+        let m : length j.params.now ≡ g.shape.cols = ap length r.params ∙ n ∙ p.for_v in
+        (sized.0, sized.1, rw (a, m, r.degree) (row_passes p))
 
-module _ {call : SurfaceCall} {g : Grid} {u v : ℕ} (p : HasParams call g u v) {j : Job} {z : Sizes} {at : Regions} {s : SavedFit} {aim : Aim}
-    (h : HasSizes z at) (flat : length s.flat.now ≡ z.count + z.degree + 1) (poles : length s.poles.now ≡ 3 * (z.lines * z.count)) where
-  pub rows_asked : {vs : List Float} → RowsJob g vs j → length vs ≡ v → z ≡ rows_sizes g.shape → aim ≡ row_aim call
-      → HasRegions j at × HasSaved j s × (aim_verdict aim (length j.params.now) j.degree ≡ pass)
-  rows_asked {vs} r n e a =
-      let y : z ≡ sizes_of j = e ∙ sym (rows-sized r (n ∙ p.for_v)) in
-      let m : length j.params.now ≡ g.shape.cols = ap length r.params ∙ n ∙ p.for_v in
-      (sized_regions j y h, sized_saved j y flat poles, rw (a, m, r.degree) (row_passes p))
-
-  pub columns_asked : {rows : StandingFit} {us : List Float} → OverRows g rows → ColumnsJob g rows us j → length us ≡ u → z ≡ columns_sizes g.shape j.lines.lines → aim ≡ column_aim call
-      → HasRegions j at × HasSaved j s × (aim_verdict aim (length j.params.now) j.degree ≡ pass)
-  columns_asked {rows} {us} o c n e a =
-      let y : z ≡ sizes_of j = e ∙ sym (columns-sized o c (n ∙ p.for_u)) in
-      let m : length j.params.now ≡ g.shape.rows = ap length c.params ∙ n ∙ p.for_u in
-      (sized_regions j y h, sized_saved j y flat poles, rw (a, m, c.degree) (column_passes p))
+    pub columns_asked : {rows : StandingFit} {us : List Float} → ColumnsJob g rows us j → length us ≡ u → aim ≡ column_aim call → HasRegions j at × HasSaved j s × (aim_verdict aim (length j.params.now) j.degree ≡ pass)
+    columns_asked {rows} {us} c n a =
+        let m : length j.params.now ≡ g.shape.rows = ap length c.params ∙ n ∙ p.for_u in
+        (sized.0, sized.1, rw (a, m, c.degree) (column_passes p))
 
 -- ---- room
 
+-- the rows' regions
+pub rows_within : {g : Grid} {vs : List Float} {j : Job} {z : Sizes} {w i : ℕ} → RowsJob g vs j → length vs ≡ g.shape.cols → z ≡ sizes_of j → RowsRoom g.shape w i
+    → places_of z + saved_places z + (places_of (columns_sizes g.shape g.shape.cols) + saved_places (columns_sizes g.shape g.shape.cols)) ≤ w
+rows_within {g} {vs} {j} {z} {w} {i} r n e room =
+    subst (λ (y : Sizes). places_of y + saved_places y + (places_of (columns_sizes g.shape g.shape.cols) + saved_places (columns_sizes g.shape g.shape.cols)) ≤ w) (sym (e ∙ rows-sized r n)) room.for_work
+
 -- the columns' regions, which are no more than the grid's columns
-pub columns_within : {g : Grid} {rows : StandingFit} {us : List Float} {j : Job} {w i : ℕ} → OverRows g rows → ColumnsJob g rows us j → ColumnsRoom g.shape w i
-    → places_of (columns_sizes g.shape j.lines.lines) + saved_places (columns_sizes g.shape j.lines.lines) ≤ w
+pub columns_within : {g : Grid} {rows : StandingFit} {us : List Float} {j : Job} {z : Sizes} {w i : ℕ} → OverRows g rows → ColumnsJob g rows us j → length us ≡ g.shape.rows → z ≡ sizes_of j → ColumnsRoom g.shape w i
+    → places_of z + saved_places z ≤ w
 unfolding places_of
-columns_within {g} {rows} {us} {j} o c room =
-    let n : j.lines.lines ≤ g.shape.cols = omega (arith, c.lines, rows.stands.few.most, o.params) in
-    let a : j.lines.lines * g.shape.rows ≤ g.shape.cols * g.shape.rows = mul-le-mul_right g.shape.rows n in
-    omega (arith, room.for_work, n)
+columns_within {g} {rows} {us} {j} o c n e room =
+    let few : j.lines.lines ≤ g.shape.cols = omega (arith, c.lines, rows.stands.few.most, o.params) in
+    let a : j.lines.lines * g.shape.rows ≤ g.shape.cols * g.shape.rows = mul-le-mul_right g.shape.rows few in
+    rw (e ∙ columns-sized o c n) (omega (arith, room.for_work, few))
 
 -- what the checks give
 v-places : (h : Shape) → h.v * h.cols ≤ max h.u h.v * max h.rows h.cols

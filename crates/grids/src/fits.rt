@@ -5,18 +5,18 @@ ghost use Rattle.knots.specs.OnLines.{on_lines};
 ghost use Rattle.checks.specs.GridChecks.{GridShaped, GridRoomy, grid_room_of};
 ghost use Rattle.checks.specs.Slices.{grid_in, grid_lent_with, SameGridOutput};
 ghost use Rattle.grids.specs.Grids.{fit_grid_by, grid_fit, HandsOutGrid};
-ghost use Rattle.grids.specs.GridRuns.{rows_sizes, columns_sizes, columns_over, RowsJob, ColumnsJob, OverRows, HasParams, HasGridOutput, ColumnsRoom, RowsRoom, TableStands};
+ghost use Rattle.grids.specs.GridRuns.{columns_over, RowsJob, ColumnsJob, OverRows, HasParams, HasGridOutput, ColumnsRoom, RowsRoom, TableStands};
 ghost use Rattle.fitting.specs.Jobs.{HasRegions, HasKnots};
 
 use crate::GridFit;
 use crate::aims::{column_aim, row_aim};
 use crate::output::hand_both;
 use bspline::Refusal;
+use checks::SurfaceCall;
 use checks::given::Grid;
 use checks::grid::check_counts;
 use checks::slices::GridOutput;
-use checks::{Shape, SurfaceCall};
-use fitting::room::{Regions, Sizes};
+use fitting::room::Regions;
 use fitting::{Job, Kind, Surface};
 use knots::lines::Lines;
 use knots::parameters::shared_parameters;
@@ -53,7 +53,7 @@ fn columns_of(grid: Grid) -> Lines
     }
 }
 
-// The rows, to be fitted along v.
+// The rows, to be fitted along v. (A ladder and the columns give the same struct of other parts.)
 fn rows_job<'a>(grid: Grid<'a>, v_params: &'a [f64]) -> Job<'a, 'a, 'a, 'a>
     requires shaped { GridShaped (length grid.points.now) grid.shape }
     requires params { (length v_params.now ≡ grid.shape.cols) × (grid.shape.v < grid.shape.cols) }
@@ -65,30 +65,6 @@ fn rows_job<'a>(grid: Grid<'a>, v_params: &'a [f64]) -> Job<'a, 'a, 'a, 'a>
         params: v_params,
         lines: rows_of(grid),
         kind: Kind::Rows,
-    }
-}
-
-// The sizes of the rows' regions, and of the columns' with so many columns of row poles.
-fn rows_sizes(shape: Shape) -> Sizes
-    ensures { result ≡ rows_sizes shape }
-{
-    Sizes {
-        degree: shape.v,
-        count: shape.cols,
-        lines: shape.rows,
-        curve: 0,
-    }
-}
-
-fn columns_sizes(shape: Shape, columns: usize) -> Sizes
-    requires { columns ≤ 64 }
-    ensures { result ≡ columns_sizes shape columns }
-{
-    Sizes {
-        degree: shape.u,
-        count: shape.rows,
-        lines: columns,
-        curve: 3 * columns,
     }
 }
 
@@ -150,7 +126,7 @@ fn fit_columns(
     ensures same { SameGridOutput out.old out.new }
 {
     let job = columns_job(grid, rows, u_params);
-    let sizes = columns_sizes(grid.shape, job.lines.lines);
+    let sizes = job.sizes();
     let (near, work) = work.split_at_mut(sizes.places());
     let mut at = Regions::new(sizes, near, index);
     let mut saved = SavedFit::new(sizes, work);
@@ -179,7 +155,7 @@ fn fit_rows(
     ensures same { SameGridOutput out.old out.new }
 {
     let job = rows_job(grid, v_params);
-    let sizes = rows_sizes(grid.shape);
+    let sizes = job.sizes();
     let (near, work) = work.split_at_mut(sizes.places());
     let (put_by, work) = work.split_at_mut(saved_places(sizes));
     let (firsts, index) = index.split_at_mut(grid.shape.cols);

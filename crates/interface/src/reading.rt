@@ -1,6 +1,7 @@
 // The reader.
 ghost use Rattle.telling.specs.ToldReading.{ToldReads};
 
+use bspline::Refusal;
 use bspline::curve::Curve;
 
 // A point of a curve: its three coordinates in the first places of `out`, or the refusal's number.
@@ -16,7 +17,7 @@ pub extern "C" fn nigorzai_read(
     ensures { ToldReads poles.now degree knots.now mults.now u out.old out.new result }
 {
     if out.len() < 3 {
-        return 9;
+        return Refusal::BufferTooShort.number();
     }
     let curve = Curve {
         poles,

@@ -99,12 +99,6 @@ pub below_more : (f : ℕ → Float) (k : ℕ) → sum_below (k + 1) f ≡ sum_b
 unfolding sum_below
 below_more f k = rw (add-one k)
 
--- sums of the same values
-pub sums_same : (f g : ℕ → Float) (n : ℕ) → ((k : ℕ) → k < n → f k ≡ g k) → running_sums f n ≡ running_sums g n
-unfolding running_sums
-sums_same f g zero e = refl
-sums_same f g (suc n) e = rw (sums_same f g n (λ k h. e k (omega arith)), e n (omega arith))
-
 pub length-chords : (f : Float) (n : ℕ) (point : ℕ → Point) → length (chords f n point) ≡ n - 1
 unfolding chords
 length-chords f n point = length-list_of (n - 1) _

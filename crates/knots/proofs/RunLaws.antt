@@ -215,6 +215,23 @@ module _ (flat : List Float) where
       let rest = equal-to x n c (i + 1) (omega arith) (λ r l. let p : i + suc r ≡ i + 1 + r = omega arith in ap (λ (k : ℕ). eq x (at flat k)) (sym p) ∙ e (suc r) (omega arith)) in
       rw first (omega (arith, rest))
 
+  -- and the place behind it, where there is one, does not
+  pub run-ends : (i : ℕ) → i + run_length flat i < length flat → eq (at flat i) (at flat (i + run_length flat i)) ≡ false
+  unfolding run_length
+  run-ends i h = go (eq (at flat i) (at flat (i + run_length flat i))) refl
+    where
+      n : ℕ
+      n = equal_from flat (at flat i) (i + 1) (length flat - i - 1)
+
+      go : (b : Bool) → eq (at flat i) (at flat (i + run_length flat i)) ≡ b → b ≡ false
+      go false e = refl
+      go true e =
+          let here : i + run_length flat i ≡ i + 1 + n = omega arith in
+          let all : (r : ℕ) → r < n + 1 → eq (at flat i) (at flat (i + 1 + r)) ≡ true =
+          λ r l. ⊎_elim (λ (z : n ≤ r). let p : i + run_length flat i ≡ i + 1 + r = omega arith in ap (λ (k : ℕ). eq (at flat i) (at flat k)) (sym p) ∙ e) (equal_in (at flat i) (length flat - i - 1) (i + 1) r) (le-or-lt n r) in
+          let more = equal-to (at flat i) (n + 1) (length flat - i - 1) (i + 1) (omega arith) all in
+          absurd (omega arith)
+
   pub run_from : (n : ℕ) → n < length flat → ((r : ℕ) → r ≤ n → eq (at flat 0) (at flat r) ≡ true) → n + 1 ≤ run_length flat 0
   unfolding run_length
   run_from n h e =
@@ -243,7 +260,7 @@ module _ (flat : List Float) where
   unfolding run_start
   distinct-few = let s = start-rises flat 0 D (omega arith) in omega (arith, runs_end)
 
-  run_in : (j : ℕ) → j < D → run_start flat j + run_length flat (run_start flat j) ≤ length flat
+  pub run_in : (j : ℕ) → j < D → run_start flat j + run_length flat (run_start flat j) ≤ length flat
   run_in j h = omega (arith, start-more flat j, start-rises flat (j + 1) D (omega arith), runs_end)
 
   -- a run of x after the places before it

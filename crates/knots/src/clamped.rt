@@ -35,6 +35,7 @@ fn average(params: &[f64], degree: usize, inner: &mut [f64])
     ensures { inner.new ≡ list_of (length inner.old) (averaged_knot params.now degree) }
 {
     let mut sum = leading_sum(params, degree);
+    // by number: after `iter_mut().zip(..)` what the list holds is not known
     for (j, knot) in inner.iter_mut().enumerate() {
         sum += params[j + degree];
         *knot = sum / degree as f64;
@@ -74,6 +75,7 @@ fn spread(params: &[f64], poles: usize, degree: usize, inner: &mut [f64])
     ensures { inner.new ≡ list_of (length inner.old) (spread_knot params.now poles degree) }
 {
     let step = (params.len() - 1) as f64 / (poles - degree) as f64;
+    // a knot follows from its number
     for (j, knot) in inner.iter_mut().enumerate() {
         *knot = between(params, (j + 1) as f64 * step);
     }

@@ -12,7 +12,7 @@ use crate::{Metric, Spacing};
 use bspline::Refusal;
 use geometry::CONFUSION;
 
-// What a line's chords come to: their length, and whether two neighbours are confused.
+// What a line's chords come to: their length, and whether two neighbours are confused. (A grid's lines are measured though they are confused.)
 #[derive(Clone, Copy)]
 pub struct LineChords {
     pub length: f64,
@@ -45,6 +45,7 @@ fn line_chords(line: Line, factor: f64, out: &mut [f64]) -> LineChords
 {
     let mut length = 0.0;
     let mut confused = false;
+    // a chord is asked for by its number
     for (k, d) in out.iter_mut().enumerate() {
         *d = line.chord(k, factor);
         length += *d;
@@ -115,6 +116,7 @@ fn add_scaled(sums: &mut [f64], line: &[f64], inverse: f64)
     requires { length line.now ≡ length sums.old }
     ensures { sums.new ≡ list_of (length sums.old) (λ (k : ℕ). at sums.old k ⊕ at line.now k ⊗ inverse) }
 {
+    // by number: after `iter_mut().zip(..)` what the list holds is not known
     for (k, sum) in sums.iter_mut().enumerate() {
         *sum += line[k] * inverse;
     }

@@ -6,6 +6,7 @@ pub fn compress_knots(flat: &[f64], knots: &mut [f64], mults: &mut [u32]) -> usi
     requires { HasRoom flat.now knots.old mults.old }
     ensures { Compressed flat.now knots.old knots.new mults.old mults.new result }
 {
+    // k counts the knots that were written, which are fewer than those that were read
     let mut k = 0;
     for u in flat {
         if 0 < k && knots[k - 1] == *u {

@@ -1,4 +1,5 @@
 // The ladder calls (document 01, part 3: `interpolate`, `approximate`, `approximate_within`, the spread search alone): their checks, then the fit, then work and index cleared.
+// Each call has its own promise, and hands on to `fit_ladder`.
 #![tactic(auto)]
 
 ghost use Rattle.std.specs.Prelude.{◌≡◌, ◌/◌, ◌<◌, [], length};
@@ -17,7 +18,7 @@ use checks::Call;
 use checks::given::Ladder;
 use checks::ladder::check_ladder;
 use checks::slices::Output;
-use fitting::room::{Regions, Sizes};
+use fitting::room::Regions;
 use fitting::{Fit, Job, Kind};
 use knots::lines::Lines;
 use knots::parameters::point_parameters;
@@ -57,7 +58,7 @@ fn line_of(ladder: Ladder) -> Lines
     }
 }
 
-// A ladder with its parameters, as a direction to be fitted.
+// A ladder with its parameters, as a direction to be fitted. (A grid's rows and columns give the same struct of other parts.)
 #[tactic(auto, using(crate::proofs::RunLaws::has_ladder_job, crate::proofs::RunLaws::direction_is), unfolding(fitting::specs::Solves::curve_places))]
 fn job_of<'a, 'b, 'c, 'd>(ladder: Ladder<'b>, params: &'a [f64]) -> Job<'a, 'b, 'c, 'd>
     requires shaped { Shaped (length ladder.points.now) ladder.degree × (ladder.degree < length params.now) }
@@ -91,13 +92,7 @@ fn fit_params(
     ensures same { SameOutput out.old out.new }
 {
     let job = job_of(ladder, params);
-    let sizes = Sizes {
-        degree: ladder.degree,
-        count: params.len(),
-        lines: 1,
-        curve: 0,
-    };
-    let mut at = Regions::new(sizes, work, index);
+    let mut at = Regions::new(job.sizes(), work, index);
     let standing = making::make(job, &mut at, call)?;
     let made = StandingFit {
         job,

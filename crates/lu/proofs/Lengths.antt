@@ -3,11 +3,10 @@ use mathlib.Core.Path.{◌≡◌, refl}
 use mathlib.Core.List.{List}
 use Prim.Native.Nat.{ℕ, ◌+◌}
 use lib.ListN.{length}
-use lib.Ieee.{Float, eq}
+use lib.Ieee.{Float}
 use Rattle.places.proofs.LoopLaws.{cond_both}
 use Rattle.places.proofs.RegionLaws.{length-each}
 use Rattle.geometry.specs.declared.Point.{Point}
-use Rattle.geometry.specs.Doubles.{nought}
 use Rattle.geometry.specs.Points.{point_at}
 use Rattle.geometry.proofs.PointLaws.{length_put-point}
 use Rattle.bands.specs.Bands.{reach}
@@ -15,7 +14,7 @@ use Rattle.lu.specs.BandLu.{band_entry, less_point, forward_step, back_band_row}
 
 pub length_less-point : (i : ℕ) (factor : Float) (q : Point) (poles : List Float) → length (less_point i factor q poles) ≡ length poles
 unfolding less_point
-length_less-point i factor q poles = cond_both length (eq factor nought) poles _ (length poles) refl (length_put-point i _ poles)
+length_less-point i factor q poles = cond_both length _ poles _ (length poles) refl (length_put-point i _ poles)
 
 pub length_forward_step : (h n : ℕ) (band : List Float) (k : ℕ) (poles : List Float) → length (forward_step h n band k poles) ≡ length poles
 unfolding forward_step

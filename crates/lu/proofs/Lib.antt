@@ -1,6 +1,7 @@
--- Laws that belong to no one function. `LuLaws` are the textbook's equations; other crates cite them as Rattle.lu.proofs.NAME.
+-- Laws that belong to no one function. `LuLaws` and `SolvedLaws` are the textbook's equations; other crates cite them as Rattle.lu.proofs.NAME.
 pub mod Lengths
 pub mod PivotLaws
 pub mod LuLaws
+pub mod SolvedLaws
 pub mod NarrowLaws
 pub mod Examples

@@ -16,7 +16,7 @@ use Rattle.places.proofs.PlaceLaws.{row_inside, le-or-lt}
 use Rattle.geometry.specs.Doubles.{◌⊖◌, ◌⊗◌, ◌⊘◌, nought, one, at}
 use Rattle.bands.specs.Bands.{place, put_entry, reach}
 use Rattle.lu.specs.BandLu.{band_entry, less_pivot, less_multiple, eliminate_row, eliminate, factor_band}
-use Rattle.lu.specs.Textbook.{less_multiples, IsLu}
+use Rattle.lu.specs.Textbook.{less_unless_zero, IsLu}
 
 -- ---- one row below pivot k
 module _ (h n k : ℕ) (i : ℕ) (f : Float) (l : List Float) where
@@ -189,7 +189,7 @@ module _ (h n : ℕ) (A : List Float) (big : n * (2 * h + 1) ≤ length A) where
         (le-or-lt s m))
 
 pub is_lu : (h n : ℕ) (A : List Float) → n * (2 * h + 1) ≤ length A → IsLu h n A (factor_band h n A)
-unfolding factor_band less_multiples
+unfolding factor_band less_unless_zero
 is_lu h n A big =
     record {
       upper = λ i j a b c.

@@ -3,7 +3,7 @@
 use mathlib.Core.Path.{◌≡◌, refl, sym, ◌∙◌, ap}
 use mathlib.Core.Bool.{cond}
 use mathlib.Core.List.{List, [], ◌++◌, append-nil}
-use mathlib.Core.Logic.{inl, inr}
+use mathlib.Core.Logic.{◌⊎◌, inl, inr}
 use Prim.Native.Nat.{ℕ, ◌+◌, ◌-◌, ◌*◌, ◌<◌, ◌≤◌}
 use native.Mathlib.Omega.{arith}
 use native.Mathlib.Nat.{add_assoc}
@@ -149,9 +149,9 @@ module _ (n k : ℕ) (row : Ahead) (l mid out : List Float) (inside : k + 2 < n)
 
 -- ---- points
 
-pub less_stays : (i j : ℕ) (factor : Float) (q : Point) (l : List Float) → j < i → point_at (less_point i factor q l) j ≡ point_at l j
+pub less_stays : (i j : ℕ) (factor : Float) (q : Point) (l : List Float) → (j < i) ⊎ (i < j) → point_at (less_point i factor q l) j ≡ point_at l j
 unfolding less_point
-less_stays i j factor q l h = cond_both (λ (t : List Float). point_at t j) (eq factor nought) l _ (point_at l j) refl (point_stays i j _ l (inl h))
+less_stays i j factor q l h = cond_both (λ (t : List Float). point_at t j) _ l _ (point_at l j) refl (point_stays i j _ l h)
 
 -- a pivot of L y = b above two rows
 pub forward-two : (n k : ℕ) (band poles : List Float) → k + 2 < n
@@ -172,4 +172,4 @@ unfolding back_band_row back_band_point
 back_solved n i a b band poles c d = rw (c, d)
 
 -- a pivot and a row with two others beside them
-pub ruleset pairs = (forward-two, solved-two, back_solved, point_put, point_stays, less_stays, inr)
+pub ruleset pairs = (forward-two, solved-two, back_solved, point_put, point_stays, less_stays, inl, inr)

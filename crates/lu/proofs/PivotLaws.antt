@@ -3,7 +3,7 @@ use mathlib.Core.Path.{◌≡◌, refl, sym, ◌∙◌, ap}
 use mathlib.Core.List.{List, ◌++◌}
 use Prim.Native.Nat.{ℕ, ◌+◌, ◌-◌, ◌*◌, ◌≤◌, ◌<◌}
 use native.Mathlib.Omega.{arith}
-use lib.ListN.{length, set, length-append, length-set, get_or-append}
+use lib.ListN.{length, set, length-set, get_or-append}
 use lib.Seq.{get_or-append-add}
 use lib.Ieee.{Float, nan, eq}
 use Rattle.places.specs.Loops.{each}
@@ -13,7 +13,6 @@ use Rattle.geometry.specs.Doubles.{◌⊘◌, nought, one, at}
 use Rattle.bands.specs.Bands.{place, put_entry, reach}
 use Rattle.lu.specs.BandLu.{band_entry, less_pivot, less_multiple, eliminate_row, eliminate}
 use Rattle.lu.specs.BelowPivot.{after_pivot, pivot_row, less_place, less_places, clear_row, clear_below}
-use Rattle.bands.proofs.Rows.{rows-after}
 
 -- each step keeps the number of places
 length_less-place : (from : ℕ) (factor : Float) (pivot : List Float) (m : ℕ) (rest : List Float) → length (less_place from factor pivot m rest) ≡ length rest
@@ -62,9 +61,6 @@ module _ (h n k : ℕ) (front back pivot : List Float) (k<n : k < n) (split : le
 
   -- where column c of row d stands: at place p of the rest, and in the band as A[k + 1 + d][c]
   module _ (d c p : ℕ) (i : d < count) (j : k ≤ c) (b : c ≤ k + count) (e : p + k ≡ from d + c) where
-    within-rest : (rest : List Float) → Rest rest → p < length rest
-    within-rest rest z = omega (arith, rows-after w k (d + 1) n (omega arith), length-append front back)
-
     place-below : place w h (k + 1 + d) c ≡ length front + p
     place-below = omega arith
 

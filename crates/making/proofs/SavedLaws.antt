@@ -66,9 +66,12 @@ module _ {j : Job} {g : Regions} (has : HasRegions j g) (knots : HasKnots j g.kn
         (ap Ok (fewer_is ∙ ap (λ (b : Option Measured). spread_in (refined fit) b (g₂.knots.count - j.degree - 1) (candidate_in j g₂)) e)) refl
         (rw e at x.reaches.measures) (rw e at x.reaches.few) x.reaches.regions
 
-    module _ {s s' : SavedFit} {g₃ : Regions} (put : Saved s s' g.knots.count (pole_places j g.knots.count) g) (back : Restored s' g.knots.count (pole_places j g.knots.count) g₂ g₃) where
+    module _ {s s' : SavedFit} {g₃ : Regions} (put : Saved s s' (pole_places j g.knots.count) g) (back : Restored s' g₂ g₃) where
+      same-count : g₃.knots.count ≡ g.knots.count
+      same-count = back.count ∙ put.knots
+
       poles-back : poles_in j g₃ ≡ poles_in j g
-      poles-back = rw back.count (back.poles ∙ put.poles)
+      poles-back = let p = rw put.places at back.poles in rw same-count (p ∙ put.poles)
 
       fit-back : candidate_in j g₃ ≡ fit
       unfolding candidate_in
@@ -97,7 +100,7 @@ module _ {j : Job} {g : Regions} (has : HasRegions j g) (knots : HasKnots j g.kn
       fewer_missed e {y} m =
           stands (Refined y.largest) y
           (ap Ok (fewer_is ∙ ap (λ (b : Option Measured). spread_in (refined fit) b (g₂.knots.count - j.degree - 1) (candidate_in j g₂)) e ∙ ap refined (sym fit-back))) refl
-          (m ∙ ap (λ (f : Candidate). measured f.distances) (sym fit-back)) (rw back.count knots) has_back
+          (m ∙ ap (λ (f : Candidate). measured f.distances) (sym fit-back)) (rw same-count knots) has_back
 
 -- ---- after refinement
 

@@ -15,18 +15,20 @@ pub record HasSaved (j : Job) (s : SavedFit) : Type 0 where
   pub flat : length j.params.now + j.degree + 1 ≤ length s.flat.now
   pub poles : 3 * (j.lines.lines * length j.params.now) ≤ length s.poles.now
 
--- The fit of l flat knots and n places of poles that stands in the regions, put by.
-pub record Saved (s s' : SavedFit) (l n : ℕ) (g : Regions) : Type 0 where
-  pub flat : take l s'.flat.now ≡ flat_of g.knots
+-- The fit that stands in the regions, with n places of poles, put by.
+pub record Saved (s s' : SavedFit) (n : ℕ) (g : Regions) : Type 0 where
+  pub knots : s'.knots ≡ g.knots.count
+  pub places : s'.places ≡ n
+  pub flat : take s'.knots s'.flat.now ≡ flat_of g.knots
   pub poles : take n s'.poles.now ≡ take n g.fit.poles.now
   pub flat_long : length s'.flat.now ≡ length s.flat.now
   pub poles_long : length s'.poles.now ≡ length s.poles.now
 
 -- And the one that was put by, in the regions again.
-pub record Restored (s : SavedFit) (l n : ℕ) (g g' : Regions) : Type 0 where
-  pub count : g'.knots.count ≡ l
-  pub flat : flat_of g'.knots ≡ take l s.flat.now
-  pub poles : take n g'.fit.poles.now ≡ take n s.poles.now
+pub record Restored (s : SavedFit) (g g' : Regions) : Type 0 where
+  pub count : g'.knots.count ≡ s.knots
+  pub flat : flat_of g'.knots ≡ take s.knots s.flat.now
+  pub poles : take s.places g'.fit.poles.now ≡ take s.places s.poles.now
   pub flat_long : length g'.knots.places.now ≡ length g.knots.places.now
   pub poles_long : length g'.fit.poles.now ≡ length g.fit.poles.now
   pub table : g'.fit.table ≡ g.fit.table

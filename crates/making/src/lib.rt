@@ -110,13 +110,11 @@ fn make_fewer(
     requires room { HasSaved job saved.old }
     ensures { Makes job.entry (Ok (fewer_or (direction_of job.entry) tolerance (some (candidate_in job.entry at.old)))) at.new result }
 {
-    let l = at.knots.count;
-    let below = l - job.degree - 1;
-    let places = 3 * (job.lines.lines * below);
-    saved.save(at, places);
+    let below = at.knots.count - job.degree - 1;
+    saved.save(at, 3 * (job.lines.lines * below));
     match fit_on_spread_knots(job, at, tolerance, below) {
         None => {
-            saved.restore(at, l, places);
+            saved.restore(at);
             Ok(Standing {
                 mark: Mark::Refined(refined.largest),
                 unreadable: refined.unreadable,
@@ -146,7 +144,7 @@ fn make_fewest(
     }
 }
 
-// By what a grid's direction is fitted to.
+// By what a grid's direction is fitted to. A match on the aim, as on the call below: a trait would have one instance for each of their variants.
 #[tactic(auto, using(crate::proofs::MakeLaws::counts), unfolding(crate::specs::Results::fit_to, crate::specs::Results::fit_by))]
 pub fn make_direction(
     job: Job,

@@ -4,7 +4,7 @@ ghost use Rattle.making.specs.HandedOut.{HasKnotsOut, HandedKnots, HandedOut};
 
 use checks::slices::Output;
 
-// Flat knots, and their runs; how many distinct knots they are.
+// Flat knots, and their runs; how many distinct knots they are. Their three slices go by themselves: a struct of them in a grid's output needs a lifetime for each slice.
 #[tactic(auto, using(crate::proofs::HandedLaws::handed_copy))]
 pub fn hand_knots(from: &[f64], flat: &mut [f64], knots: &mut [f64], mults: &mut [u32]) -> usize
     requires { HasKnotsOut (length from.now) flat.old knots.old mults.old }

@@ -5,11 +5,13 @@ ghost use Rattle.making.specs.Saving.{saved_places};
 
 use fitting::room::{Regions, Sizes};
 
-// Places for a fit's flat knots and for its poles.
+// Places for a fit's flat knots and for its poles, and how many of each are put by, the first.
 #[derive(Drop)]
 pub struct SavedFit<'a> {
     pub flat: &'a mut [f64],
     pub poles: &'a mut [f64],
+    pub knots: usize,
+    pub places: usize,
 }
 
 // How many places they are for regions of these sizes.
@@ -33,7 +35,12 @@ impl<'a> SavedFit<'a> {
     {
         let (flat, work) = work.split_at_mut(sizes.count + sizes.degree + 1);
         let (poles, _) = work.split_at_mut(3 * (sizes.lines * sizes.count));
-        SavedFit { flat, poles }
+        SavedFit {
+            flat,
+            poles,
+            knots: 0,
+            places: 0,
+        }
     }
 
     // The fit that stands in the regions, so many places of poles, put by.
@@ -41,20 +48,24 @@ impl<'a> SavedFit<'a> {
     pub fn save(&mut self, at: &Regions, places: usize)
         requires flat { (at.now.knots.count ≤ length self.old.flat.now) × (at.now.knots.count ≤ length at.now.knots.places.now) }
         requires poles { (places ≤ length self.old.poles.now) × (places ≤ length at.now.fit.poles.now) }
-        ensures { Saved self.old self.new at.now.knots.count places at.now }
+        ensures { Saved self.old self.new places at.now }
     {
         let l = at.knots.count;
         self.flat[0..l].copy_from_slice(&at.knots.places[..l]);
         self.poles[0..places].copy_from_slice(&at.fit.poles[..places]);
+        self.knots = l;
+        self.places = places;
     }
 
-    // The fit of l flat knots that was put by, in its regions again.
+    // The fit that was put by, in its regions again.
     #[tactic(auto, using(crate::proofs::SavedLaws::copied))]
-    pub fn restore(&self, at: &mut Regions, l: usize, places: usize)
-        requires flat { (l ≤ length self.now.flat.now) × (l ≤ length at.old.knots.places.now) }
-        requires poles { (places ≤ length self.now.poles.now) × (places ≤ length at.old.fit.poles.now) }
-        ensures { Restored self.now l places at.old at.new }
+    pub fn restore(&self, at: &mut Regions)
+        requires flat { (self.now.knots ≤ length self.now.flat.now) × (self.now.knots ≤ length at.old.knots.places.now) }
+        requires poles { (self.now.places ≤ length self.now.poles.now) × (self.now.places ≤ length at.old.fit.poles.now) }
+        ensures { Restored self.now at.old at.new }
     {
+        let l = self.knots;
+        let places = self.places;
         at.knots.count = l;
         at.knots.places[0..l].copy_from_slice(&self.flat[..l]);
         at.fit.poles[0..places].copy_from_slice(&self.poles[..places]);

@@ -1,5 +1,5 @@
 -- A basis table by its lists, and what the functions over one ask. Definitions only.
-use Rattle.std.specs.Prelude.{◌≡◌, ℕ, List, ◌+◌, ◌-◌, ◌*◌, ◌≤◌, ◌<◌, length, get_or, Float}
+use Rattle.std.specs.Prelude.{◌≡◌, ℕ, List, ◌+◌, ◌*◌, ◌≤◌, ◌<◌, length, get_or, Float}
 use Rattle.knots.specs.Lines.{HasLines}
 use Rattle.tables.specs.BasisTable.{BasisTable}
 

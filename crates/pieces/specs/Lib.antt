@@ -1,4 +1,4 @@
--- A spacing by a bool, what is found by a bool and regions of one list, and tables by their lists.
+-- A spacing by a bool, what is found by a bool, and tables by their lists.
 pub mod Metrics
 pub mod Lent
 pub mod Fits

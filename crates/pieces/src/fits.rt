@@ -62,7 +62,7 @@ pub extern "C" fn pieces_least_squares(
         firsts,
         values,
     };
-    solving::squares::least_squares(&table, given, band, poles)
+    solving::squares::least_squares(&table, given, band, poles).is_some()
 }
 
 #[unsafe(no_mangle)]

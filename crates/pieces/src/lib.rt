@@ -8,17 +8,16 @@ ghost use Rattle.geometry.specs.Order.{sorted};
 ghost use Rattle.geometry.specs.Points.{put_point};
 ghost use Rattle.bspline.specs.Spans.{NeverFalls};
 ghost use Rattle.bspline.specs.Reader.{curve_point};
-ghost use Rattle.places.specs.Regions.{part, splice};
 ghost use Rattle.places.specs.Loops.{outcome};
 ghost use Rattle.cholesky.specs.Cholesky.{factor_symmetric_band, substitute_symmetric_band};
 ghost use Rattle.lu.specs.BandLu.{factor_band, substitute_band};
-ghost use Rattle.bands.specs.Shapes.{Solvable};
+ghost use Rattle.bands.specs.Shapes.{HasSystem};
 ghost use Rattle.knots.specs.Parameters.{point_parameters, shared_parameters};
 ghost use Rattle.knots.specs.Knots.{averaged_knots, approximation_knots};
 ghost use Rattle.knots.specs.Lines.{line_of, lines_of, HasLine, HasLines};
-ghost use Rattle.knots.specs.Calls.{HasRoom, Compressed};
+ghost use Rattle.knots.specs.Calls.{KnotRoom, HasRoom, Compressed};
 ghost use Rattle.pieces.specs.Metrics.{metric_of};
-ghost use Rattle.pieces.specs.Lent.{Found, KnotRegions};
+ghost use Rattle.pieces.specs.Lent.{Found};
 
 pub mod fits;
 
@@ -123,36 +122,24 @@ pub extern "C" fn pieces_shared_parameters(
 }
 
 #[unsafe(no_mangle)]
-pub extern "C" fn pieces_averaged_knots(
-    work: &mut [f64],
-    params: usize,
-    n: usize,
-    degree: usize,
-    flat: usize,
-)
-    requires { KnotRegions work.old params n n degree flat }
-    ensures { work.new ≡ splice flat (flat + n + degree + 1) (averaged_knots (part params (params + n) work.old) degree) work.old }
+pub extern "C" fn pieces_averaged_knots(params: &[f64], degree: usize, flat: &mut [f64])
+    requires { KnotRoom (length params.now) (length params.now) degree (length flat.old) }
+    ensures { flat.new ≡ averaged_knots params.now degree }
 {
-    let (head, tail) = work.split_at_mut(flat);
-    let params = &head[params..params + n];
-    knots::clamped::averaged_knots(params, degree, &mut tail[..n + degree + 1]);
+    knots::clamped::averaged_knots(params, degree, flat);
 }
 
 #[unsafe(no_mangle)]
 pub extern "C" fn pieces_approximation_knots(
-    work: &mut [f64],
-    params: usize,
-    n: usize,
+    params: &[f64],
     poles: usize,
     degree: usize,
-    flat: usize,
+    flat: &mut [f64],
 )
-    requires { KnotRegions work.old params n poles degree flat }
-    ensures { work.new ≡ splice flat (flat + poles + degree + 1) (approximation_knots (part params (params + n) work.old) poles degree) work.old }
+    requires { KnotRoom (length params.now) poles degree (length flat.old) }
+    ensures { flat.new ≡ approximation_knots params.now poles degree }
 {
-    let (head, tail) = work.split_at_mut(flat);
-    let params = &head[params..params + n];
-    knots::clamped::approximation_knots(params, poles, degree, &mut tail[..poles + degree + 1]);
+    knots::clamped::approximation_knots(params, poles, degree, flat);
 }
 
 #[unsafe(no_mangle)]
@@ -173,24 +160,20 @@ pub extern "C" fn pieces_factor_symmetric_band(
     requires { (h ≤ 25) × (n * (h + 1) ≤ length lower.old) }
     ensures { outcome result lower.new ≡ factor_symmetric_band h n relative lower.old }
 {
-    cholesky::factor_symmetric_band(lower, h, n, relative)
+    cholesky::factor_symmetric_band(lower, h, n, relative).is_some()
 }
 
 #[unsafe(no_mangle)]
 pub extern "C" fn pieces_substitute_symmetric_band(
-    work: &mut [f64],
-    l0: usize,
-    l1: usize,
-    p0: usize,
-    p1: usize,
+    lower: &[f64],
+    poles: &mut [f64],
     h: usize,
     n: usize,
 )
-    requires { Solvable l0 l1 p0 p1 (h + 1) h n work.old }
-    ensures { work.new ≡ splice p0 p1 (substitute_symmetric_band h n (part l0 l1 work.old) (part p0 p1 work.old)) work.old }
+    requires { HasSystem (h + 1) h n lower.now poles.old }
+    ensures { poles.new ≡ substitute_symmetric_band h n lower.now poles.old }
 {
-    let (head, tail) = work.split_at_mut(p0);
-    cholesky::substitute_symmetric_band(&head[l0..l1], &mut tail[..p1 - p0], h, n);
+    cholesky::substitute_symmetric_band(lower, poles, h, n);
 }
 
 #[unsafe(no_mangle)]
@@ -202,18 +185,9 @@ pub extern "C" fn pieces_factor_band(band: &mut [f64], h: usize, n: usize)
 }
 
 #[unsafe(no_mangle)]
-pub extern "C" fn pieces_substitute_band(
-    work: &mut [f64],
-    l0: usize,
-    l1: usize,
-    p0: usize,
-    p1: usize,
-    h: usize,
-    n: usize,
-)
-    requires { Solvable l0 l1 p0 p1 (2 * h + 1) h n work.old }
-    ensures { work.new ≡ splice p0 p1 (substitute_band h n (part l0 l1 work.old) (part p0 p1 work.old)) work.old }
+pub extern "C" fn pieces_substitute_band(band: &[f64], poles: &mut [f64], h: usize, n: usize)
+    requires { HasSystem (2 * h + 1) h n band.now poles.old }
+    ensures { poles.new ≡ substitute_band h n band.now poles.old }
 {
-    let (head, tail) = work.split_at_mut(p0);
-    lu::substitute_band(&head[l0..l1], &mut tail[..p1 - p0], h, n);
+    lu::substitute_band(band, poles, h, n);
 }

@@ -1,8 +1,9 @@
 -- The laws of counting loops: by them a loop's proof goes. Assumes nothing.
 use mathlib.Core.Path.{◌≡◌, refl, sym, ◌∙◌, ap}
 use mathlib.Core.Bool.{Bool, true, false, cond}
+use mathlib.Core.Logic.{⊎_elim}
 use Prim.Native.Nat.{ℕ, zero, suc, ◌+◌, ◌-◌, ◌<◌, ◌≤◌}
-use native.Mathlib.Nat.{zero-add, suc-add, add-zero, add-suc}
+use native.Mathlib.Nat.{zero-add, suc-add, add-zero, add-suc, eq-or-lt_of_le}
 use native.Mathlib.Numerals.{add-one}
 use native.Mathlib.Omega.{arith}
 use Rattle.places.specs.Loops.{times, each, down, Outcome, outcome, and_then, times_while, each_while}
@@ -76,6 +77,14 @@ each_only p f a j b s h k e =
     ap p (each_split a j b f s h (omega arith) ∙ each_step j b f (each a j f s) k)
     ∙ each_same p f (j + 1) b (f j (each a j f s)) (λ i t u v. e i t (omega arith) v)
 
+-- what only turn j touches, and makes g of: p of the state; q of it stays throughout
+pub each_once : {S T R : Type 0} (p : S → T) (q : S → R) (f : ℕ → S → S) (g : T → T) (a j b : ℕ) (s : S) → a ≤ j → j < b → ((k : ℕ) (t : S) → q (f k t) ≡ q t)
+    → ((k : ℕ) (t : S) → a ≤ k → k < b → (k ≡ j → ⊥) → p (f k t) ≡ p t) → ((t : S) → q t ≡ q s → p (f j t) ≡ g (p t)) → p (each a b f s) ≡ g (p s)
+each_once p q f g a j b s h k keeps stays turn =
+    each_only p f a j b s h k (λ i t u v. stays i t (omega arith) v (λ e. omega arith))
+    ∙ turn (each a j f s) (each_same q f a j s (λ i t u v. keeps i t))
+    ∙ ap g (each_same p f a j s (λ i t u v. stays i t u (omega arith) (λ e. omega arith)))
+
 -- two loops whose turns agree
 module _ {S : Type 0} (f g : ℕ → S → S) where
   times_cong : (m a : ℕ) (s : S) → ((k : ℕ) (t : S) → a ≤ k → k < a + m → f k t ≡ g k t) → times m a f s ≡ times m a g s
@@ -104,6 +113,26 @@ module _ {S T : Type 0} (φ : T → S) (P : T → Type 0) (f : ℕ → S → S) 
       → each a e f (φ t) ≡ φ (each b c g t)
   unfolding each
   each_shift a e b c t z p h = rw (← z) (times_shift (e - a) a b t p (λ i j x u v r q. h i j x u (omega arith) r q))
+
+-- the same with its numbers as they are: what each turn shows, the loop shows
+pub each_seen : {S T : Type 0} (φ : T → S) (f : ℕ → S → S) (g : ℕ → T → T) (a b : ℕ) (t : T) → ((k : ℕ) (x : T) → f k (φ x) ≡ φ (g k x)) → each a b f (φ t) ≡ φ (each a b g t)
+each_seen φ f g a b t h = each_shift φ (λ x. x ≡ x) f g a b a b t refl refl (λ i j x u v e p. let z : i ≡ j = omega arith in (rw z (h j x), refl))
+
+-- A loop that goes down: the state t before turn i - 1, of which P holds, and from there on
+pub down_split : {S : Type 0} (P : S → Type 0) (i n : ℕ) (f : ℕ → S → S) (s : S) → i ≤ n → P s → ((k : ℕ) (t : S) → i ≤ k → k < n → P t → P (f k t)) → (t : S) × (down n f s ≡ down i f t) × P t
+unfolding down
+down_split P i zero f s h p e = let z : i ≡ 0 = omega arith in (s, rw z refl, p)
+down_split P i (suc n) f s h p e =
+    ⊎_elim
+    (λ z. (s, rw z refl, p))
+    (λ l. down_split P i n f (f n s) (omega arith) (e n s (omega arith) (omega arith) p) (λ k t u v. e k t u (omega arith)))
+    (eq-or-lt_of_le h)
+
+-- and what each turn of it leaves alone: p of the state
+pub down_same : {S T : Type 0} (p : S → T) (n : ℕ) (f : ℕ → S → S) (s : S) → ((k : ℕ) (t : S) → k < n → p (f k t) ≡ p t) → p (down n f s) ≡ p s
+unfolding down
+down_same p zero f s h = refl
+down_same p (suc n) f s h = down_same p n f (f n s) (λ k t l. h k t (omega arith)) ∙ h n s (omega arith)
 
 -- what both choices show, the choice shows: p of them
 pub cond_both : {S T : Type 0} (p : S → T) (b : Bool) (x y : S) (v : T) → p x ≡ v → p y ≡ v → p (cond b x y) ≡ v

@@ -1,6 +1,7 @@
 -- Merging two sorted lists from the back is sorting one onto the other. Assumes nothing.
 use Rattle.std.proofs.Common.{◌≡◌, ℕ, zero, suc, ◌+◌, ◌-◌, ◌<◌, ◌≤◌, Bool, true, false, cond, ltb, List, [], ◌∷◌, ◌++◌, length, take, drop, set, sym, refl, ap, ◌∙◌, subst, append_assoc, le_refl, lt_of_lt_of_le, lt_of_le_of_lt, le_of_lt, add-one, arith, length-take-le, get_or-take, take-take, take_at, drop_at, drop-drop, take-suc, ltb-false, ltb-true, le-ltb, lt-ltb}
 use lib.Ieee.{Float, nan}
+use Rattle.std.proofs.lemmas.List.{get_or_at}
 use Rattle.places.proofs.GatheredLaws.{pasted, pasted-before, take_pasted}
 use Rattle.geometry.specs.Doubles.{at}
 use Rattle.geometry.specs.Order.{rank_of, inserted, sorted_onto, sorted, NoneBelow, Ascending}
@@ -180,7 +181,7 @@ module _ (flat : List Float) (l : ℕ) (new : List Float) (room : l + length new
   olds_are : length (take l flat) ≡ l
   olds_are = length-take-le l flat (omega arith)
 
-  module _ (up : Ascending (take l flat)) (up' : Ascending new) (now : List Float) (i j : ℕ) (v : Merging (take l flat) new flat now i j) where
+  module _ (now : List Float) (i j : ℕ) (v : Merging (take l flat) new flat now i j) where
     -- the old ones that are left still stand there
     left_is : take i now ≡ take i old
     left_is = rw v.whole (take_pasted i (i + j) v.tail flat (omega arith) (omega (arith, v.long, olds_are)) ∙ sym (take-take i l flat (omega (arith, v.olds, olds_are))))
@@ -194,24 +195,6 @@ module _ (flat : List Float) (l : ℕ) (new : List Float) (room : l + length new
     read_old : 0 < i → at now (i - 1) ≡ at old (i - 1)
     read_old p = sym (get_or-take i now (i - 1) nan (omega arith)) ∙ rw left_is (get_or-take i old (i - 1) nan (omega arith))
 
-    pub merge-new : 0 < j → (0 < length (take i now) → rank_of (at (take i now) (length (take i now) - 1)) ≤ rank_of (at new (j - 1)))
-        → Merging (take l flat) new flat (set now (i + j - 1) (at new (j - 1))) i (j - 1)
-    merge-new p h =
-        let z : j ≡ j - 1 + 1 = omega arith in
-        let v' : Merging old new flat now i (j - 1 + 1) = subst (λ (k : ℕ). Merging old new flat now i k) z v in
-        merging-new old new flat (omega (arith, olds_are)) up up' now i (j - 1) v' (i + j - 1) (omega arith)
-        (none-above-first i old (at new (j - 1)) v.olds up (λ q. rw (last_is q) at (h (omega (arith, left_long)))))
-
-    pub merge_old : 0 < j → (0 < length (take i now)) × (rank_of (at new (j - 1)) < rank_of (at (take i now) (length (take i now) - 1)))
-        → Merging (take l flat) new flat (set now (i + j - 1) (at now (i - 1))) (i - 1) j
-    merge_old p h =
-        let q : 0 < i = omega (arith, h.0, left_long) in
-        let y : i ≡ i - 1 + 1 = omega arith in
-        let z : j ≡ j - 1 + 1 = omega arith in
-        let v' : Merging old new flat now (i - 1 + 1) (j - 1 + 1) = subst (λ (k : ℕ). Merging old new flat now (i - 1 + 1) k) z (subst (λ (k : ℕ). Merging old new flat now k j) y v) in
-        rw (read_old q) (subst (λ (k : ℕ). Merging old new flat (set now (i + j - 1) (at old (i - 1))) (i - 1) k) (sym z)
-        (merging_old old new flat (omega (arith, olds_are)) up up' now (i - 1) (j - 1) v' (i + j - 1) (omega arith) (rw (last_is q) at h.1)))
-
     pub merge_end : j ≡ 0 → now ≡ sorted_onto (take l flat) new ++ drop (l + length new) flat
     unfolding sorted_onto
     merge_end z =
@@ -220,6 +203,33 @@ module _ (flat : List Float) (l : ℕ) (new : List Float) (room : l + length new
         let r : take i old ++ v.tail ≡ sorted_onto old new = rw z at v.rest in
         let t : take i flat ≡ take i old = sym (take-take i l flat (omega (arith, v.olds, olds_are))) in
         v.whole ∙ rw (y, e, t) (sym (append_assoc (take i old) v.tail (drop (l + length new) flat)) ∙ ap (λ (xs : List Float). xs ++ drop (l + length new) flat) r)
+
+  module _ (up : Ascending (take l flat)) (up' : Ascending new) (now : List Float) (i j : ℕ) (v : Merging (take l flat) new flat now i (j + 1)) where
+    -- the last of the new ones goes behind the old ones that are left
+    pub merge-new : (0 < length (take i now) → rank_of (at (take i now) (length (take i now) - 1)) ≤ rank_of (at new j)) → Merging (take l flat) new flat (set now (i + j) (at new j)) i j
+    merge-new h =
+        merging-new old new flat (omega (arith, olds_are)) up up' now i j v (i + j) (omega arith)
+        (none-above-first i old (at new j) v.olds up (λ q. rw (last_is now i (j + 1) v q) at (h (omega (arith, left_long now i (j + 1) v)))))
+
+    -- the last of those ranks above it, and moves up
+    pub merge_old : (0 < length (take i now)) × (rank_of (at new j) < rank_of (at (take i now) (length (take i now) - 1))) → Merging (take l flat) new flat (set now (i + j) (at now (i - 1))) (i - 1) (j + 1)
+    merge_old h =
+        let q : 0 < i = omega (arith, h.0, left_long now i (j + 1) v) in
+        let y : i ≡ i - 1 + 1 = omega arith in
+        rw (read_old now i (j + 1) v q)
+        (merging_old old new flat (omega (arith, olds_are)) up up' now (i - 1) j (subst (λ (k : ℕ). Merging old new flat now k (j + 1)) y v) (i + j) (omega arith) (rw (last_is now i (j + 1) v q) at h.1))
+
+-- what is left of a list that is walked from the back
+pub record FrontOf (xs left : List Float) : Type 0 where
+  pub behind : List Float
+  pub whole : xs ≡ left ++ behind
+
+-- the last of it is taken, which has the number j
+pub front_less : (xs left left' : List Float) (v : Float) (j count : ℕ) → FrontOf xs left → left ≡ left' ++ (v ∷ []) → count ≡ 0 → j ≡ count + length left' → FrontOf xs left' × (j ≡ length left') × (v ≡ at xs j)
+front_less xs left left' v j count f e z n =
+    let w : xs ≡ left' ++ (v ∷ f.behind) = f.whole ∙ ap (λ (z : List Float). z ++ f.behind) e ∙ append_assoc left' (v ∷ []) f.behind in
+    let m : j ≡ length left' = omega arith in
+    (record { behind = v ∷ f.behind; whole = w }, m, sym (ap (λ (z : List Float). at z j) w ∙ get_or_at left' v f.behind nan j (sym m)))
 
 -- ---- `take_in`: both are sorted, then merged
 

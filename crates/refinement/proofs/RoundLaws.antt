@@ -1,8 +1,7 @@
--- A round: the new knots taken in among the flat ones, what stays behind what is written, and the definitions by what the program's steps find. Assumes nothing.
-use Rattle.std.proofs.Common.{◌≡◌, ℕ, ◌+◌, ◌-◌, ◌<◌, ◌≤◌, Bool, true, false, cond, ◌||◌, eqb, leb, List, ◌++◌, length, take, drop, drop-drop, sym, refl, ap, ◌∙◌, arith, length-append, length-take-le, eq-eqb, ne_eqb, le-leb, leb-false}
-use mathlib.Core.Option.{Option, none, some}
+-- A round: the new knots taken in among the flat ones, and the definitions by what the program's steps find. Assumes nothing.
+use Rattle.std.proofs.Common.{◌≡◌, ℕ, ◌+◌, ◌-◌, ◌<◌, ◌≤◌, Bool, true, false, cond, ◌||◌, eqb, leb, List, ◌++◌, length, take, sym, refl, ap, ◌∙◌, arith, length-append, length-take-le, eq-eqb, ne_eqb, le-leb, leb-false}
+use mathlib.Core.Option.{none, some}
 use borrow.Author.Tests.{lt-leb, eqb-false}
-use lib.Seq.{drop-append-add}
 use lib.Ieee.{Float}
 use Rattle.places.specs.Places.{count_below}
 use Rattle.places.proofs.GatheredLaws.{count_most}
@@ -10,7 +9,7 @@ use Rattle.geometry.specs.Root.{roots_of}
 use Rattle.geometry.specs.Order.{sorted}
 use Rattle.geometry.proofs.SortLaws.{length-sorted}
 use Rattle.refinement.specs.Refinement.{span_ends, span_worsts, splits, threshold_of, knots_at, new_knots, with_knots, refined_knots}
-use Rattle.refinement.specs.Round.{headed, fresh_after, round_knots}
+use Rattle.refinement.specs.Round.{round_knots}
 use Rattle.refinement.proofs.SpanLaws.{spans-most}
 use Rattle.refinement.proofs.SplitLaws.{length-knots}
 
@@ -70,17 +69,6 @@ knots-few params squares firsts most tolerance =
     let worsts = span_worsts (roots_of squares) ends in
     let threshold = threshold_of ends worsts tolerance most in
     omega (arith, length-knots params ends worsts tolerance threshold, count_most (length ends) (splits ends worsts tolerance threshold), spans-most firsts)
-
--- ---- what it leaves behind what it writes
-
-pub drop-headed : (n : ℕ) (xs slice : List Float) → length xs ≤ n → drop n (headed xs slice) ≡ drop n slice
-drop-headed n xs slice h =
-    let z : length xs + (n - length xs) ≡ n = omega arith in
-    rw z at (drop-append-add xs (drop (length xs) slice) (n - length xs) ∙ drop-drop (n - length xs) (length xs) slice)
-
-pub fresh-behind : (o : Option (List Float)) (n : ℕ) (new fresh : List Float) → length new ≤ n → drop n (fresh_after o new fresh) ≡ drop n fresh
-fresh-behind none n new fresh h = refl
-fresh-behind (some all) n new fresh h = drop-headed n (sorted new) fresh (omega (arith, length-sorted new))
 
 -- ---- a round by what its steps find
 

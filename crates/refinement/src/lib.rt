@@ -15,6 +15,7 @@ use splits::Splitting;
 
 // One round, by the squares of the parameters' deviations, on the l flat knots at the front of `flat`: how many there are then. The ends of the spans take the places of
 // the first poles, the spans' worst deviations those of the squares, and the new knots the first of `fresh`.
+// The lists are parameters of their own: what is read and what is written stand beside each other.
 pub fn refine(
     params: &[f64],
     squares: &mut [f64],

@@ -15,23 +15,19 @@ fn goes_last(list: &[f64], v: f64) -> bool
 }
 
 // The first l values of `flat` and all of `fresh`, both sorted, are merged from the back, into the first places of `flat`.
-// Both are walked by their own places, as the Rust walks its one list.
+// The old ones that rank above a new one move up; by place, since they are read and written in one list.
 fn merge_back(flat: &mut [f64], l: usize, fresh: &[f64])
     requires room { l + length fresh.now ≤ length flat.old }
     requires ascending { Ascending (take l flat.old) × Ascending fresh.now }
     ensures { flat.new ≡ sorted_onto (take l flat.old) fresh.now ++ drop (l + length fresh.now) flat.old }
 {
     let mut i = l;
-    let mut j = fresh.len();
-    while 0 < j {
-        let v = fresh[j - 1];
-        if goes_last(&flat[..i], v) {
-            flat[i + j - 1] = v;
-            j -= 1;
-        } else {
-            flat[i + j - 1] = flat[i - 1];
+    for (j, v) in fresh.iter().enumerate().rev() {
+        while !goes_last(&flat[..i], *v) {
+            flat[i + j] = flat[i - 1];
             i -= 1;
         }
+        flat[i + j] = *v;
     }
 }
 

@@ -73,6 +73,7 @@ impl<'a> Spans<'a> {
         ensures { squares.new ≡ headed (span_worsts (roots_of squares.old) self.entry.ends.now) squares.old }
     {
         let mut start = 0;
+        // by place: worst `s` is written at or before the squares of its span, in the list that they are read from
         for (s, end) in self.ends.iter().enumerate() {
             let most = geometry::doubles::largest_of(&squares[start..*end]);
             squares[s] = geometry::root::sqrt(most);

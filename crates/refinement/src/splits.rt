@@ -64,12 +64,10 @@ impl<'a> Splitting<'a> {
         requires { length fresh.old ≡ count_below (length self.spans.ends.now) (splits self.spans.ends.now self.worsts.now self.tolerance self.threshold) }
         ensures { fresh.new ≡ knots_at self.entry.spans.params.now self.entry.spans.ends.now self.entry.worsts.now self.entry.tolerance self.entry.threshold }
     {
-        let mut at = 0;
-        for s in 0..self.spans.ends.len() {
-            if self.splits(s) {
-                fresh[at] = self.spans.middle_knot(s);
-                at += 1;
-            }
+        let splitting = (0..self.spans.ends.len()).filter(|s| self.splits(*s));
+        // places by number: after `iter_mut().zip(..)` what the list holds is not known
+        for (at, s) in splitting.enumerate() {
+            fresh[at] = self.spans.middle_knot(s);
         }
     }
 }

@@ -1,6 +1,6 @@
 // Replays a list of ladder calls: each is run again, and its answer compared with the one that a reference program gave, bit for bit.
 // The list is standard input, a word of 16 hexadecimal digits to a line: how many cases, then case by case the call and its answer.
-// All room is on the stack: 512 KiB of text, its words in 241 KiB, and some 1.1 MiB lent to the calls, enough for 3,200 places and degree 27.
+// All room is on the stack, none from the heap: 512 KiB of text, its words in 241 KiB, and some 1.1 MiB lent to the calls, enough for 3,200 places and degree 27.
 #![tactic(auto)]
 
 mod runs;
@@ -12,7 +12,7 @@ const TEXT: usize = 524288;
 
 const WORDS: usize = TEXT / 17;
 
-// What the replay came to. A difference is told by its case's number, from 1 on.
+// What the replay came to. A difference is told by its case's number, from 1 on. (`println!` would rest on one more of the library's axioms.)
 fn tell(tally: Tally) {
     if let Some(first) = tally.first {
         io::write_all(1, b"first different: case ");

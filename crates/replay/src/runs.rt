@@ -35,7 +35,7 @@ struct Buffers {
     index: [usize; INDEX],
 }
 
-// One case: whether the answers are the same, and the place of the next case.
+// One case: whether the answers are the same, and the place of the next case, which stands there whether they are or not.
 #[derive(Clone, Copy)]
 pub struct Turn {
     pub same: bool,

@@ -1,2 +1,3 @@
--- What the loops do.
+-- What the loops do, and values beside words.
 pub mod Loops
+pub mod ValueLaws

@@ -9,7 +9,7 @@ use bspline::Refusal;
 use checks::slices::Output;
 use fitting::Fit;
 
-// A fit as the list has it. Its values start at `values`, and after them stands the next case.
+// A fit as the list has it. Its values start at `values`, and after them stands the next case: the list holds the words of many.
 #[derive(Clone, Copy)]
 pub struct ListedFit {
     pub degree: usize,

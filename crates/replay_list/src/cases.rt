@@ -8,7 +8,7 @@ use crate::{Case, PLACES};
 use checks::Call;
 use knots::Spacing;
 
-// The call of an entry's number.
+// The call of an entry's number, as the list has it.
 fn call_of(entry: u64, count: u64, tolerance: u64) -> Option<Call>
     ensures { result ≡ call_of entry count tolerance }
 {
@@ -63,6 +63,7 @@ pub fn lay_places(case: Case, points: &mut [f64])
     requires { PLACES ≤ length points.old }
     ensures { points.new ≡ laid 0 case.entry.count (place_at case.entry.given.now) points.old }
 {
+    // by number: from the last word on that word stands for each place
     for (k, x) in points[..case.count].iter_mut().enumerate() {
         *x = card_text::from_word(case.given[k.min(case.given.len() - 1)]);
     }

@@ -2,16 +2,15 @@
 ghost use Rattle.std.specs.Prelude.{◌+◌, ◌≤◌, length};
 ghost use Rattle.replay_list.specs.Text.{ReadAt, ReadAs};
 
-// The word of the line that starts at a place, unless the text is damaged there. Its digits go by place, each to be multiplied by 16 as often
-// as places follow.
-#[tactic(auto, using(card_text::proofs::NumberLaws::word_room))]
+// The word of the line that starts at a place, unless the text is damaged there.
+#[tactic(auto, using(card_text::proofs::NumberLaws::word_room, places::proofs::RegionLaws::length_part))]
 fn word_at(text: &[u8], start: usize) -> Option<u64>
     requires { start + 17 ≤ length text.now }
     ensures { ReadAt text.now start result }
 {
     let mut w = 0u64;
-    for k in 0..16 {
-        let d = card_text::digit(text[start + k])?;
+    for b in &text[start..start + 16] {
+        let d = card_text::digit(*b)?;
         w = w * 16 + d;
     }
     (text[start + 16] == b'\n').then_some(w)
@@ -26,6 +25,7 @@ pub fn read_lines(text: &[u8], words: &mut [u64]) -> Option<usize>
     if text.len() % 17 != 0 || words.len() < n {
         return None;
     }
+    // a line's place follows from its number
     for (k, word) in words[..n].iter_mut().enumerate() {
         *word = word_at(text, 17 * k)?;
     }

@@ -33,13 +33,5 @@ impl Worded for u32 {
 pub fn same_words<T: Worded>(values: &[T], words: &[u64]) -> bool
     ensures { result ≡ same_words T.word values.now words.now }
 {
-    if values.len() < words.len() {
-        return false;
-    }
-    for (x, w) in values.iter().zip(words) {
-        if x.word() != *w {
-            return false;
-        }
-    }
-    true
+    words.len() <= values.len() && values.iter().zip(words).all(|(x, w)| x.word() == *w)
 }

@@ -9,6 +9,8 @@ use lib.ListN.{length, drop, replicate, length-replicate}
 use lib.Seq.{drop-length}
 use lib.Ieee.{Float, nan}
 use Rattle.std.specs.List.{list_all}
+use Rattle.std.specs.Prelude.{Option, Some, None, is_some}
+use Rattle.std.specs.Bool.{then_some}
 use Rattle.places.specs.Loops.{each, outcome}
 use Rattle.places.specs.Places.{joined}
 use Rattle.places.specs.Regions.{part}
@@ -105,20 +107,19 @@ lines_fill n lines g w w' h e =
     ∙ ap (λ (l : List Float). joined lines g ++ l) (drop-length w)
     ∙ append-nil (joined lines g)
 
--- the only line
-pub one_line : (lines : ℕ) (f : ℕ → List Float) (g : List Float → List Float) → lines ≡ 1 → g (joined lines f) ≡ joined lines (λ r. g (f r))
-unfolding joined
-one_line lines f g e = rw e
-
 -- ---- the whole fit
 
-module _ (t : Table) (l : Lines) (band lower xs : List Float) (ok : Bool) (is : band ≡ normal_matrix (table_of t) t.poles)
-    (factor : outcome ok lower ≡ factor_symmetric_band t.degree t.poles relative_floor band) where
-  pub none_squared : ok ≡ false → Squared t l xs false
-  unfolding least_squares solved_lines
-  none_squared e = record { answer = rw (← is, ← factor, e) }
+told_by : (b : Bool) → is_some (then_some b (tt {0})) ≡ b
+told_by true = refl
+told_by false = refl
 
-  pub some_squared : ok ≡ true → xs ≡ joined l.lines (λ r. substitute_symmetric_band t.degree t.poles lower (right_hand (table_of t) t.poles (on_lines l r)))
-      → (r : Bool) → r ≡ list_all is_finite xs → Squared t l xs r
+module _ (t : Table) (l : Lines) (band lower xs : List Float) (o : Option (Unit {0})) (is : band ≡ normal_matrix (table_of t) t.poles)
+    (factor : outcome (is_some o) lower ≡ factor_symmetric_band t.degree t.poles relative_floor band) where
+  pub none_squared : o ≡ None → (r : Option (Unit {0})) → r ≡ None → Squared t l xs (is_some r)
   unfolding least_squares solved_lines
-  some_squared e solved r all = record { answer = rw (← is, ← factor, e, all, all_places is_finite nan xs, solved) }
+  none_squared e r none = record { answer = rw (← is, ← factor, e, none) }
+
+  pub some_squared : (x : Unit {0}) → o ≡ Some x → xs ≡ joined l.lines (λ k. substitute_symmetric_band t.degree t.poles lower (right_hand (table_of t) t.poles (on_lines l k)))
+      → (r : Option (Unit {0})) → r ≡ then_some (list_all is_finite xs) tt → Squared t l xs (is_some r)
+  unfolding least_squares solved_lines
+  some_squared x e solved r all = record { answer = rw (← is, ← factor, e, all, told_by, all_places is_finite nan xs, solved) }

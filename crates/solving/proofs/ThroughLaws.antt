@@ -33,7 +33,7 @@ length_substitute h n band poles =
 pub length-line : (h n : ℕ) (band : List Float) (f : ℕ → Point) → length (line_through h n band f) ≡ 3 * n
 unfolding line_through
 length-line h n band f =
-    length_put-point (n - 1) (f (n - 1)) _ ∙ length_put-point 0 (f 0) _ ∙ length_substitute h n band (points_of n f) ∙ length-points n f
+    length_put-point (n - 1) _ _ ∙ length_put-point 0 _ _ ∙ length_substitute h n band (points_of n f) ∙ length-points n f
 
 -- a curve through the points has a pole for each
 pub length_interpolation : (t : BasisTable) (point : ℕ → ℕ → Point) → length (interpolation t 1 point) ≡ 1 * (3 * length t.firsts)

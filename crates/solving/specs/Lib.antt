@@ -1,5 +1,6 @@
--- Least squares and interpolation, and their steps.
+-- Least squares and interpolation, their steps, and the systems as the books write them.
 pub mod LeastSquares
 pub mod Steps
 pub mod Interpolation
 pub mod Through
+pub mod Textbook

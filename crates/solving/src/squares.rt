@@ -1,6 +1,6 @@
 // Least-squares poles of lines of data (`least_squares`): the normal equations A'A x = A'b, factored once for all the lines. Rows, values
 // and lines go by their numbers, from which their poles' places follow.
-ghost use Rattle.std.specs.Prelude.{◌≡◌, ℕ, ◌+◌, ◌*◌, ◌≤◌, List, length, Float};
+ghost use Rattle.std.specs.Prelude.{◌≡◌, ℕ, ◌+◌, ◌*◌, ◌≤◌, List, length, Float, is_some};
 ghost use Rattle.std.specs.List.{list_all};
 ghost use Rattle.places.specs.Loops.{each};
 ghost use Rattle.places.specs.Places.{joined};
@@ -9,12 +9,12 @@ ghost use Rattle.knots.specs.OnLines.{on_line, on_lines};
 ghost use Rattle.cholesky.specs.Cholesky.{substitute_symmetric_band};
 ghost use Rattle.cholesky.specs.Together.{EachLine};
 ghost use Rattle.tables.specs.Layout.{table_of, HasTable};
-ghost use Rattle.solving.specs.LeastSquares.{add_product, normal_matrix, add_datum, right_hand};
+ghost use Rattle.solving.specs.LeastSquares.{normal_matrix, add_datum, right_hand};
 ghost use Rattle.solving.specs.Steps.{add_row_product, add_row_value, add_to_pole, OntoBand, OntoPoles, HasPoints, HasSquares, Squared};
 
 use bands::Band;
+use cholesky::factor_symmetric_band;
 use cholesky::together::substitute_together;
-use cholesky::{factor_symmetric_band, substitute_symmetric_band};
 use geometry::Point;
 use knots::lines::{Line, Lines};
 use tables::basis_table::{Row, Table};
@@ -38,7 +38,7 @@ fn add_value(band: &mut [f64], row: Row, a: usize)
     }
 }
 
-// The products of one row of degree 3, with every number of places known to the compiler.
+// The products of one row of degree 3, with every number of places known to the compiler (docs/PERFORMANCE.md has what it saves).
 #[tactic(auto, using(bands::proofs::Rows::loops))]
 fn add_four(band: &mut [f64], first: usize, values: &[f64])
     requires { (length values.now ≡ 4) × ((first + 3) * 4 + 4 ≤ length band.old) }
@@ -118,7 +118,7 @@ fn right_hands(table: &Table, lines: Lines, poles: &mut [f64])
     }
 }
 
-// The poles of all the lines, with the factor of A'A: one line by itself, and several together.
+// The poles of all the lines together, with the factor of A'A.
 fn solve_lines(table: &Table, lines: Lines, lower: &[f64], poles: &mut [f64])
     requires has_squares { HasSquares table.now lines (length poles.old) }
     requires factored { length lower.now ≡ table.now.poles * (table.now.degree + 1) }
@@ -126,10 +126,6 @@ fn solve_lines(table: &Table, lines: Lines, lower: &[f64], poles: &mut [f64])
         (right_hand (table_of table.now) table.now.poles (on_lines lines.entry r))) }
 {
     right_hands(table, lines, poles);
-    if lines.lines == 1 {
-        substitute_symmetric_band(lower, poles, table.degree, table.poles);
-        return;
-    }
     substitute_together(lower, poles, lines.lines, table.degree, table.poles);
 }
 
@@ -140,16 +136,14 @@ pub fn all_finite(list: &[f64]) -> bool
     list.iter().all(|x| geometry::doubles::is_finite(*x))
 }
 
-// Least-squares poles of each line, one after the other; false where the data leaves a pole (nearly) undetermined or not finite. The matrix stands in `band`.
-pub fn least_squares(table: &Table, lines: Lines, band: &mut [f64], poles: &mut [f64]) -> bool
+// Least-squares poles of each line, one after the other; none where the data leaves a pole (nearly) undetermined or not finite. The matrix stands in `band`.
+pub fn least_squares(table: &Table, lines: Lines, band: &mut [f64], poles: &mut [f64]) -> Option<()>
     requires has_squares { HasSquares table.now lines (length poles.old) }
     requires matrix { length band.old ≡ table.now.poles * (table.now.degree + 1) }
-    ensures { Squared table.now lines.entry poles.new result }
+    ensures { Squared table.now lines.entry poles.new (is_some result) }
 {
     normal_matrix(table, band);
-    if !factor_symmetric_band(band, table.degree, table.poles, RELATIVE_FLOOR) {
-        return false;
-    }
+    factor_symmetric_band(band, table.degree, table.poles, RELATIVE_FLOOR)?;
     solve_lines(table, lines, band, poles);
-    all_finite(poles)
+    all_finite(poles).then_some(())
 }

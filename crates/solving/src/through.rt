@@ -1,5 +1,5 @@
 // Interpolating poles of lines of data: a band matrix, its LU factors, and each line solved in its place. Rows, points
-// and lines go by their numbers.
+// and lines go by their numbers, from which the places of their entries and poles follow.
 ghost use Rattle.std.specs.Prelude.{◌≡◌, ◌+◌, ◌-◌, ◌*◌, ◌≤◌, ◌<◌, ◌^◌, length};
 ghost use Rattle.places.specs.Loops.{each};
 ghost use Rattle.geometry.specs.Points.{points_of};

@@ -1,4 +1,5 @@
 // The grid calls (document 01, part 4): their checks, then the fits, then work and index cleared.
+// Each call has its own promise, and hands on to `fit_grid`.
 #![tactic(auto)]
 
 ghost use Rattle.checks.specs.Slices.{grid_in, grid_lent_with, SameGridOutput};

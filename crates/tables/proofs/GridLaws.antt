@@ -87,14 +87,13 @@ module _ (S : ℕ → ℕ → Float) (cols : ℕ) where
     measures = measured-start S cols total g;
   }
 
-  pub rows-turn : (n i : ℕ) (now next : List Float) (total row more : Measured) → RowsTo i now total → n ≡ cols
-      → next ≡ list_of n (λ j. larger (at now j) (S i j)) → row ≡ squares_measured (list_of n (S i)) → more ≡ with_all total row
+  pub rows-turn : (n i : ℕ) (f : ℕ → Float) (now next : List Float) (total row more : Measured) → RowsTo i now total → n ≡ cols → f ≡ S i
+      → next ≡ list_of n (λ j. larger (at now j) (f j)) → row ≡ squares_measured (list_of n f) → more ≡ with_all total row
       → RowsTo (i + 1) next more
-  rows-turn n i now next total row more g z e h k = record {
-    put = e
-        ∙ ap (λ (m : ℕ). list_of m (λ j. larger (at now j) (S i j))) z
+  rows-turn n i f now next total row more g z same e h k = record {
+    put = rw (same, z) at e
         ∙ list_of-same cols _ (column_largest (i + 1)) (λ j l. rw (g.put, list_of-at cols (column_largest i) j nan l) (sym (largest-more i (λ k. S k j))));
-    measures = rows-measured S cols i total row more g.measures (h ∙ ap (λ (m : ℕ). squares_measured (list_of m (S i))) z) k;
+    measures = rows-measured S cols i total row more g.measures (rw (same, z) at h) k;
   }
 
 -- point j of row i: the square of its distance
@@ -180,13 +179,13 @@ module _ (f : Float) (u v : BasisTable) (columns m : ℕ) (poles s : List Float)
   grid_start old total e = record { put = sym (laid_none 0 row_largest old); measures = measured-start S cols total e }
 
   -- a row more: its squares are those from the curve
-  pub grid-turn : (i : ℕ) (old now curve : List Float) (total row more : Measured) → GridTo old i now total → curve ≡ curve_of u columns m poles i
-      → row ≡ squares_measured (list_of cols (λ j. squared_distance f (table_point v curve 0 j) (point_at s (i * cols + j))))
+  pub grid-turn : (i w : ℕ) (old now curve : List Float) (total row more : Measured) → GridTo old i now total → curve ≡ curve_of u columns m poles i → w ≡ cols
+      → row ≡ squares_measured (list_of cols (λ j. squared_distance f (table_point v curve 0 j) (point_at s (i * w + j))))
       → more ≡ with_all total row
       → GridTo old (i + 1) (set now i row.largest) more
   unfolding squares_measured
-  grid-turn i old now curve total row more g e h k =
-      let row' : row ≡ squares_measured (list_of cols (S i)) = rw e at h in
+  grid-turn i w old now curve total row more g e z h k =
+      let row' : row ≡ squares_measured (list_of cols (S i)) = rw (e, z) at h in
       record {
         put = laid0-next i row_largest old now row.largest g.put (ap (λ (y : Measured). y.largest) row');
         measures = rows-measured S cols i total row more g.measures row' k;

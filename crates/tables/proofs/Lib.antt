@@ -5,3 +5,4 @@ pub mod TableLaws
 pub mod PointsLaws
 pub mod MeasureLaws
 pub mod GridLaws
+pub mod BookLaws

@@ -80,7 +80,7 @@ table_end {flat} {d} {params} {firsts₀} {firsts} {values₀} {values} {span} {
     (p.firsts_to ∙ rw (e, no_firsts, append-nil), p.values_to ∙ rw (e, no_values, append-nil))
 
 -- a row's values are the basis functions on the span that its search finds
-value_is : (flat : List Float) (d : ℕ) (params : List Float) (k : ℕ) → k < length params → (a : ℕ) → a < d + 1 → value (basis_table flat d params) k a ≡ at (row_at flat d params k) a
+pub value_is : (flat : List Float) (d : ℕ) (params : List Float) (k : ℕ) → k < length params → (a : ℕ) → a < d + 1 → value (basis_table flat d params) k a ≡ at (row_at flat d params k) a
 unfolding basis_table
 value_is flat d params k h a l = joined_at (length params) (d + 1) (row_at flat d params) nan (λ j _. length-basis_at flat d (span_at flat d params j) (at params j)) k a h l
 

@@ -27,6 +27,12 @@ pub record Readable (t : Table) (start k places : ℕ) : Type 0 where
   pub has : HasRow t k
   pub poles : 3 * (start + get_or t.firsts.now k 0 + (t.degree + 1)) ≤ places
 
+-- A curve's poles, from pole `start` on, and a line of points, from point `first` on, among so many places.
+pub record HasBeside (t : Table) (start first poles points : ℕ) : Type 0 where
+  pub table : HasTable t
+  pub poles_inside : 3 * (start + t.poles) ≤ poles
+  pub points_inside : 3 * (first + length t.firsts.now) ≤ points
+
 -- What the making of a table asks: at least the knots of a single piece, and a place for each parameter and each value.
 pub record FillsTable (t : Table) (flat params : List Float) : Type 0 where
   pub low : 1 ≤ t.degree

@@ -5,3 +5,5 @@ pub mod Deviations
 pub mod Directions
 pub mod Layout
 pub mod Measures
+pub mod Squares
+pub mod Textbook

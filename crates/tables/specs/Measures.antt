@@ -2,14 +2,13 @@
 use Rattle.std.specs.Prelude.{◌≡◌, cond, List, ℕ, ◌+◌, ◌*◌, ◌≤◌, length, Float}
 use Rattle.std.specs.Float.Ieee.{is_nan}
 use Rattle.geometry.specs.Doubles.{larger, largest}
-use Rattle.geometry.specs.Points.{squared_distance, point_at, points_of}
+use Rattle.geometry.specs.Points.{points_of}
 use Rattle.geometry.specs.Root.{sqrt_of, roots_of}
 use Rattle.tables.specs.declared.Measured.{Measured}
 use Rattle.tables.specs.declared.basis_table.Table.{Table}
-use Rattle.tables.specs.declared.deviations.Beside.{Beside}
 use Rattle.tables.specs.BasisTable.{BasisTable, table_point}
 use Rattle.tables.specs.Deviations.{unreadable}
-use Rattle.tables.specs.Layout.{table_of, HasTable}
+use Rattle.tables.specs.Layout.{HasTable}
 
 -- the largest, and how many are NaN
 unfoldable pub measured : List Float → Measured
@@ -34,19 +33,9 @@ pub record LeavesSquares (deviations_of : List Float → List Float) (ds squares
   pub measures : r ≡ measured ds
   pub deviations : roots_of squares ≡ deviations_of ds
 
--- the square of a line's distance at parameter k
-abbrev pub square_beside : Beside → ℕ → Float
-square_beside b k = squared_distance b.factor (table_point (table_of b.table.now) b.poles.now b.start k) (point_at b.points.now (b.first + k))
-
 -- the poles of the v curve at u parameter i, of columns' poles that stand line after line, m to a column
 abbrev pub curve_of : BasisTable → ℕ → ℕ → List Float → ℕ → List Float
 curve_of u columns m poles i = points_of columns (λ l. table_point u poles (l * m) i)
-
--- the curve's poles and the line's points lie in the lists
-pub record HasBeside (b : Beside) : Type 0 where
-  pub table : HasTable b.table.now
-  pub poles_inside : 3 * (b.start + b.table.now.poles) ≤ length b.poles.now
-  pub points_inside : 3 * (b.first + length b.table.now.firsts.now) ≤ length b.points.now
 
 -- so many places of one curve's poles, of squares, and of as many points
 pub record HasLadder (t : Table) (poles squares points : ℕ) : Type 0 where

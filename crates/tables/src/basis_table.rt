@@ -19,6 +19,7 @@ pub fn fill_table(
 {
     let width = degree + 1;
     let mut rows = BasisRows::new(flat, degree);
+    // by number: what a list holds after `iter_mut().zip(..)` or `chunks_mut`, or once its rest is split off, is not known
     for (k, t) in params.iter().enumerate() {
         firsts[k] = rows.at(*t, &mut values[k * width..(k + 1) * width]);
     }
@@ -81,12 +82,12 @@ impl Table<'_> {
         }
     }
 
-    // The point at parameter k of the curve whose poles stand in the list from pole `start` on (`BasisTable::point`).
+    // The point at parameter k of the curve whose poles stand in the list from pole `start` on (`BasisTable::point`): one list holds the poles of many lines.
     pub fn point(&self, poles: &[f64], start: usize, k: usize) -> Point
         requires { Readable self.now start k (length poles.now) }
         ensures { result ≡ table_point (table_of self.now) poles.now start k }
     {
         let row = self.row(k);
-        bspline::reader::pole_sum(row.values, poles, start + row.first, row.degree + 1)
+        bspline::reader::pole_sum(row.values, poles, start + row.first)
     }
 }

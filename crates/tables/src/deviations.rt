@@ -1,18 +1,19 @@
 // How far the points lie from a fit read at their own parameters. The squares of the distances stand in the lent places; a root is taken of the largest
 // alone. Parameters, rows and columns go by their numbers: a table and a list of points are read by them.
-ghost use Rattle.std.specs.Prelude.{◌≡◌, ◌*◌, ◌≤◌, ◌<◌, length};
+ghost use Rattle.std.specs.Prelude.{◌≡◌, ◌*◌, ◌<◌, length};
 ghost use Rattle.places.specs.Places.{list_of};
 ghost use Rattle.geometry.specs.Doubles.{at, larger};
 ghost use Rattle.tables.specs.Deviations.{ladder_distances, row_distances, grid_distances, point_deviations, largest_over_rows, largest_over_columns};
 ghost use Rattle.tables.specs.Directions.{transposed};
-ghost use Rattle.tables.specs.Layout.{table_of};
-ghost use Rattle.tables.specs.Measures.{squares_measured, square_beside, curve_of, HasBeside, HasLadder, HasRows, HasColumns, HasGrid, LeavesSquares};
+ghost use Rattle.tables.specs.Layout.{table_of, HasBeside};
+ghost use Rattle.tables.specs.Measures.{squares_measured, curve_of, HasLadder, HasRows, HasColumns, HasGrid, LeavesSquares};
 
 use crate::Measured;
 use crate::basis_table::Table;
 use geometry::Point;
 
 // A line of points, from point `first` on, beside the curve of a table whose poles begin at pole `start`, and the lightness factor of the distances.
+// One list holds many curves and lines. Its three loops differ in what they keep of a square: a closure would write the list that the loop lends.
 #[derive(Clone, Copy)]
 struct Beside<'a, 'b> {
     table: &'a Table<'b>,
@@ -21,13 +22,16 @@ struct Beside<'a, 'b> {
     points: &'a [f64],
     first: usize,
     factor: f64,
+    ghost inside: { HasBeside table.now start first (length poles.now) (length points.now) },
 }
 
 impl Beside<'_, '_> {
+    ghost use Rattle.tables.specs.Squares.{square_beside};
+
     // The square of the distance at parameter k.
     #[tactic(auto, using(crate::proofs::ReadingLaws::readable))]
     fn square(&self, k: usize) -> f64
-        requires { HasBeside self.now × (k < length self.now.table.now.firsts.now) }
+        requires { k < length self.now.table.now.firsts.now }
         ensures { result ≡ square_beside self.now k }
     {
         let q = self.table.point(self.poles, self.start, k);
@@ -37,7 +41,7 @@ impl Beside<'_, '_> {
     // Each square in its place.
     #[tactic(auto, using(crate::proofs::MeasureLaws::placing))]
     fn lay_squares(&self, squares: &mut [f64]) -> Measured
-        requires { HasBeside self.now × (length squares.old ≡ length self.now.table.now.firsts.now) }
+        requires { length squares.old ≡ length self.now.table.now.firsts.now }
         ensures value { result ≡ squares_measured (list_of (length squares.old) (square_beside self.now)) }
         ensures squares_after { squares.new ≡ list_of (length squares.old) (square_beside self.now) }
     {
@@ -53,7 +57,7 @@ impl Beside<'_, '_> {
     // Each square in its place where it is larger than what stands there.
     #[tactic(auto, using(crate::proofs::MeasureLaws::placing))]
     fn raise_squares(&self, squares: &mut [f64]) -> Measured
-        requires { HasBeside self.now × (length squares.old ≡ length self.now.table.now.firsts.now) }
+        requires { length squares.old ≡ length self.now.table.now.firsts.now }
         ensures value { result ≡ squares_measured (list_of (length squares.old) (square_beside self.now)) }
         ensures squares_after { squares.new ≡ list_of (length squares.old) (λ k. larger (at squares.old k) (square_beside self.now k)) }
     {
@@ -69,7 +73,6 @@ impl Beside<'_, '_> {
     // The squares' measures alone.
     #[tactic(auto, using(crate::proofs::MeasureLaws::placing))]
     fn measure_squares(&self) -> Measured
-        requires { HasBeside self.now }
         ensures { result ≡ squares_measured (list_of (length self.now.table.now.firsts.now) (square_beside self.now)) }
     {
         let mut total = Measured::none();

@@ -17,7 +17,7 @@ impl Measured {
     ghost use Rattle.std.specs.Prelude.{◌≡◌, [], ◌+◌, ◌^◌, ◌<◌};
     ghost use Rattle.tables.specs.Measures.{squares_measured, with_all, with_square, rooted};
 
-    // No distance yet.
+    // No distance yet: the largest of none is 0, and none of them is unreadable.
     #[tactic(auto, using(crate::proofs::MeasureLaws::squares_none))]
     pub fn none() -> Measured
         ensures { result ≡ squares_measured [] }

@@ -13,6 +13,7 @@ use Rattle.bspline.specs.declared.Refusal.{Refusal}
 use Rattle.checks.specs.LadderChecks.{cleared}
 use Rattle.checks.specs.declared.SurfaceCall.{SurfaceCall}
 use Rattle.checks.specs.declared.SurfaceCall.TheVariants.{ApproximateWithin}
+use Rattle.checks.specs.declared.GridRoom.{GridRoom}
 use Rattle.checks.specs.GridChecks.{Grid, GridLent, grid_room_of, grid_checks}
 use Rattle.grids.specs.Grids.{GridResult, grid_refused, grid_fit, grid_checked, grid_result_of, grid_result_number, grid_answer_of, HandsOutGrid, GridCall, GridAnswer}
 use Rattle.checks.proofs.GridCheckLaws.{grid_gives}
@@ -31,14 +32,25 @@ pub few-counts : (largest : List Float) (counts : List ℕ) → 2 ≤ length lar
 few-counts largest counts h k =
     ap (λ (b : Bool). not b && not (ltb (length counts) 8)) (le-ltb (length largest) 2 h) ∙ ap not (lt-ltb (length counts) 8 k)
 
+-- no places of any kind
+abbrev NoPlaces : GridRoom → Type 0
+NoPlaces r = (r.poles ≡ 0) × (r.uflat ≡ 0) × (r.uknots ≡ 0) × (r.umults ≡ 0) × (r.vflat ≡ 0) × (r.vknots ≡ 0) × (r.vmults ≡ 0) × (r.work ≡ 0) × (r.index ≡ 0)
+
+no_room : (r : GridRoom) → NoPlaces r → r ≡ grid_room_of no_grid
+no_room r z =
+    let is : record { poles = r.poles; uflat = r.uflat; uknots = r.uknots; umults = r.umults; vflat = r.vflat; vknots = r.vknots; vmults = r.vmults; work = r.work; index = r.index } ≡ grid_room_of no_grid = cc in
+    is
+
 module _ (call : SurfaceCall) (g : Grid) where
   -- with nothing lent the checks stop
   pub stops : grid_checks g (grid_room_of no_grid) ≡ pass → ⊥
   stops e = let r = grid_gives g (grid_room_of no_grid) e in omega (arith, r.1.for_work)
 
-  pub stopped-number : (c : Refusal) → Err c ≡ grid_checks g (grid_room_of no_grid) → grid_result_number (grid_refused c) ≡ grid_result_number (grid_result_of call g no_grid)
+  -- no room is that of nothing lent
+  pub stopped-number : (r : GridRoom) → NoPlaces r → (c : Refusal) → Err c ≡ grid_checks g r
+      → grid_result_number (grid_refused c) ≡ grid_result_number (grid_result_of call g no_grid)
   unfolding grid_result_of grid_checked
-  stopped-number c e = ap (λ (w : Verdict). grid_result_number (grid_checked w (grid_fit call g))) e
+  stopped-number r z c e = ap (λ (w : Verdict). grid_result_number (grid_checked w (grid_fit call g))) (e ∙ ap (grid_checks g) (no_room r z))
 
   -- judged with nothing lent, the call is refused and touches nothing
   refused_untouched : (w : Verdict) → grid_checks g (grid_room_of no_grid) ≡ w → (l : GridLent) (largest : List Float) (counts : List ℕ) (r : ℕ) → r ≡ grid_result_number (grid_result_of call g no_grid)

@@ -13,7 +13,8 @@ use Rattle.bspline.specs.declared.Refusal.{Refusal}
 use Rattle.knots.specs.declared.Metric.{Metric}
 use Rattle.checks.specs.declared.Call.{Call}
 use Rattle.checks.specs.declared.Call.TheVariants.{ApproximateWithin, SearchSpread}
-use Rattle.checks.specs.LadderChecks.{Lent, ladder_checks, cleared}
+use Rattle.checks.specs.declared.Room.{Room}
+use Rattle.checks.specs.LadderChecks.{Lent, room_of, ladder_verdict, ladder_checks, cleared}
 use Rattle.making.specs.Results.{FitResult, fit_by}
 use Rattle.ladders.specs.Ladders.{ladder_fit, result_of, answer_of, handed, handed_poles, handed_flat, handed_knots, handed_mults, LadderCall, Answer}
 use Rattle.checks.proofs.CheckLaws.{checks_give}
@@ -31,14 +32,25 @@ pub few-counts : (largest : List Float) (counts : List ℕ) → 1 ≤ length lar
 few-counts largest counts h k =
     ap (λ (b : Bool). not b && not (ltb (length counts) 4)) (le-ltb (length largest) 1 h) ∙ ap not (lt-ltb (length counts) 4 k)
 
+-- no places of any kind
+abbrev NoPlaces : Room → Type 0
+NoPlaces r = (r.poles ≡ 0) × (r.flat ≡ 0) × (r.knots ≡ 0) × (r.mults ≡ 0) × (r.work ≡ 0) × (r.index ≡ 0)
+
+no_room : (r : Room) → NoPlaces r → r ≡ room_of nothing
+no_room r z =
+    let is : record { poles = r.poles; flat = r.flat; knots = r.knots; mults = r.mults; work = r.work; index = r.index } ≡ room_of nothing = cc in
+    is
+
 module _ (call : Call) (s : List Float) (degree : ℕ) (v : Metric) where
   -- with nothing lent the checks stop
   pub stops : ladder_checks call s degree v nothing ≡ pass → ⊥
   stops e = let g = checks_give call s degree v nothing e in omega (arith, g.0.least, g.2.for_poles)
 
-  pub stopped-number : (c : Refusal) → Err c ≡ ladder_checks call s degree v nothing → number_of c ≡ number_in (result_of call s degree v nothing)
+  -- no room is that of nothing lent
+  pub stopped-number : (r : Room) → NoPlaces r → (c : Refusal) → Err c ≡ ladder_verdict call s degree v.factor r → number_of c ≡ number_in (result_of call s degree v nothing)
   unfolding result_of
-  stopped-number c e = ap (λ (w : Verdict). number_in (w next ladder_fit v s degree (fit_by call))) e
+  stopped-number r z c e =
+      ap (λ (w : Verdict). number_in (w next ladder_fit v s degree (fit_by call))) (e ∙ ap (ladder_verdict call s degree v.factor) (no_room r z))
 
   -- judged with nothing lent, the call is refused and touches nothing
   refused_untouched : (w : Verdict) → ladder_checks call s degree v nothing ≡ w → (l : Lent) (largest : List Float) (counts : List ℕ) (r : ℕ) → r ≡ number_in (result_of call s degree v nothing)

@@ -34,20 +34,9 @@ fn tell_grid(answer: Result<GridFit, Refusal>, largest: &mut [f64], counts: &mut
 fn grid_without_room(grid: Grid, call: SurfaceCall) -> u32
     ensures { result ≡ grid_result_number (grid_result_of call (grid_in grid.entry) no_grid) }
 {
-    let room = GridRoom {
-        poles: 0,
-        uflat: 0,
-        uknots: 0,
-        umults: 0,
-        vflat: 0,
-        vknots: 0,
-        vmults: 0,
-        work: 0,
-        index: 0,
-    };
-    match check_grid(grid, room) {
+    match check_grid(grid, GridRoom::default()) {
         Err(c) => c.number(),
-        Ok(()) => 9,
+        Ok(()) => Refusal::BufferTooShort.number(),
     }
 }
 

@@ -33,17 +33,9 @@ fn tell(answer: Result<Fit, Refusal>, largest: &mut [f64], counts: &mut [usize])
 fn without_room(ladder: Ladder, call: Call) -> u32
     ensures { result ≡ number_in (result_of call ladder.entry.points.now ladder.entry.degree ladder.entry.metric nothing) }
 {
-    let room = Room {
-        poles: 0,
-        flat: 0,
-        knots: 0,
-        mults: 0,
-        work: 0,
-        index: 0,
-    };
-    match check_ladder(ladder, call, room) {
+    match check_ladder(ladder, call, Room::default()) {
         Err(c) => c.number(),
-        Ok(()) => 9,
+        Ok(()) => Refusal::BufferTooShort.number(),
     }
 }
 

@@ -1,4 +1,5 @@
 // A call's answer for C: its number, and the mark and the counts of a fit in two more lent slices. A slice too short for them is too short like any other.
+// The two slices go beside those of the output, as in C: a struct with them needs a lifetime for each slice.
 #![tactic(auto)]
 
 pub mod grid;

@@ -13,6 +13,7 @@ use Rattle.places.proofs.PlaceLaws.{some_false}
 use Rattle.geometry.specs.declared.Point.{Point}
 use Rattle.geometry.specs.Doubles.{nought, one, half, double, is_finite, at}
 use Rattle.geometry.proofs.FloatOrder.{test}
+use Rattle.bspline.specs.Refusals.{degree_verdict}
 use Rattle.bspline.specs.Spans.{span_from, span_before, clamp, last_with, span_of, NeverFalls, InRange}
 use Rattle.bspline.specs.Basis.{share, rising, row, basis, left_of, right_of, basis_at}
 use Rattle.bspline.specs.Reader.{flat_knots, curve_point, too_large, sizes_verdict, knots_verdict, not_readable, reader_verdict, Reads}
@@ -121,7 +122,7 @@ abbrev point : Point
 point = curve_point (flat_knots knots mults) 2 poles fifth
 
 is_read : Reads poles 2 knots mults fifth (Ok point)
-unfolding reader_verdict sizes_verdict knots_verdict not_readable too_large is_finite flat_knots joined some_below of_bits le is_nan
+unfolding reader_verdict sizes_verdict degree_verdict knots_verdict not_readable too_large is_finite flat_knots joined some_below of_bits le is_nan
 is_read = record { answer = refl; number = refl }
 
 knots_unit : InUnitInterval knots

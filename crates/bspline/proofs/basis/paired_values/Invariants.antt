@@ -1,10 +1,10 @@
--- The invariant: after i pairs the functions of degree `degree % 2` + 2 i stand. Assumes nothing.
-use Prim.Native.Nat.{◌+◌, ◌*◌, ◌%◌}
+-- The invariant: the functions of degree d stand, where j is d + 1, and the degree is d or above it by an even number. Assumes nothing.
+use Prim.Native.Nat.{ℕ, ◌+◌, ◌%◌, ◌≤◌}
 use mathlib.Core.Path.{◌≡◌}
 use mathlib.Core.List.{◌++◌}
 use lib.ListN.{drop}
 use Rattle.bspline.specs.Basis.{basis_at}
 use Rattle.bspline.proofs.basis.paired_values.Given as goal
 
-abbrev pub invariant-loop-i : goal.invariant-loop-i
-invariant-loop-i l = l.values ≡ basis_at l.flat (l.degree % 2 + 2 * l.i) l.span l.u ++ drop (l.degree % 2 + 2 * l.i + 1) l.fn.values
+abbrev pub invariant-loop-j : goal.invariant-loop-j
+invariant-loop-j l = (d : ℕ) × (l.j ≡ d + 1) × (d ≤ l.degree) × (d % 2 ≡ l.degree % 2) × (l.values ≡ basis_at l.flat d l.span l.u ++ drop (d + 1) l.fn.values)

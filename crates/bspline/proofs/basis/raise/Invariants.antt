@@ -1,4 +1,5 @@
--- Before turn r the first r functions of the next degree stand, and `saved` is the first term of the one after them. Assumes nothing.
+-- Before turn r the first r functions of the next degree stand, `saved` is the first term of the one after them, and the knots begin r places on. Assumes nothing.
+use Prim.Native.Nat.{◌+◌, ◌-◌}
 use mathlib.Core.Path.{◌≡◌}
 use mathlib.Core.List.{◌++◌}
 use lib.ListN.{take, drop}
@@ -7,10 +8,11 @@ use Rattle.geometry.specs.Doubles.{at}
 use Rattle.bspline.specs.Basis.{left_of, right_of, rising, row}
 use Rattle.bspline.proofs.basis.raise.Given as goal
 
-abbrev pub invariant-loop-r : goal.invariant-loop-r
-invariant-loop-r l =
+abbrev pub invariant-loop-value : goal.invariant-loop-value
+invariant-loop-value l =
     let L = left_of l.flat l.span l.u in
     let R = right_of l.flat l.span l.u in
     let N = at l.fn.values in
-    (l.saved ≡ rising L R N l.j l.r)
-    × (l.value-items ≡ list_of l.r (row L R N l.j) ++ drop l.r (take l.j l.fn.values))
+    (l.saved ≡ rising L R N l.j l.value-index)
+    × (l.value-items ≡ list_of l.value-index (row L R N l.j) ++ drop l.value-index (take l.j l.fn.values))
+    × (l.knots ≡ drop (l.span + 1 - l.j + l.value-index) l.flat)

@@ -1,11 +1,8 @@
 -- The values that are summed are the basis functions. Assumes nothing.
-use native.Mathlib.Omega.{arith}
-use mathlib.Core.Path.{refl, ap, ◌∙◌}
-use mathlib.Core.List.{List}
-use lib.Ieee.{Float, nan}
-use lib.ListN.{get_or-append}
-use Rattle.geometry.specs.Doubles.{at}
-use Rattle.geometry.proofs.PointLaws.{weighted-same}
+use Prim.Native.Nat.{◌+◌}
+use mathlib.Core.Path.{◌≡◌, ◌∙◌}
+use lib.ListN.{take}
+use Rattle.std.proofs.Math.Seq.{take-append_seam}
 use Rattle.bspline.specs.Basis.{basis_at}
 use Rattle.bspline.proofs.Recurrence.{length-basis_at}
 use Rattle.bspline.proofs.reader.span_point.Goals as goal
@@ -13,7 +10,7 @@ use Rattle.bspline.proofs.reader.span_point.Goals as goal
 pub returns : goal.returns
 returns c =
     let a = c.args in
-    c.pole_sum.ensures
-    ∙ weighted-same _ _ _ _ _
-    (λ k h. ap (λ (l : List Float). at l k) c.basis_values.ensures ∙ get_or-append (basis_at a.flat.now a.degree a.span a.u) _ nan k (omega (arith, length-basis_at a.flat.now a.degree a.span a.u)))
-    (λ k h. refl)
+    let N = basis_at a.flat.now a.degree a.span a.u in
+    let long = length-basis_at a.flat.now a.degree a.span a.u in
+    let stored : take (a.degree + 1) c.basis_values.new.values ≡ N = rw (c.basis_values.ensures, ← long) (take-append_seam N _) in
+    c.pole_sum.ensures ∙ rw (stored, long)

@@ -5,16 +5,16 @@ use Rattle.places.proofs.LoopLaws.{while_split}
 use Rattle.cholesky.specs.Cholesky.{factor_row}
 use Rattle.cholesky.proofs.carried.factor_carried.Goals as goal
 
-pub returns-then-factor_rows : goal.returns-then-factor_rows
+pub returns-in_err-factor_rows : goal.returns-in_err-factor_rows
 unfolding and_then
-returns-then-factor_rows c =
+returns-in_err-factor_rows c =
     let a = c.args in
     let split = while_split (factor_row 3 a.floor) 0 3 a.n a.lower.now (omega arith) (omega arith) in
     grind (arith, split)
 
-pub returns-else-factor_rows : goal.returns-else-factor_rows
+pub returns : goal.returns
 unfolding and_then
-returns-else-factor_rows c =
+returns c =
     let a = c.args in
     let split = while_split (factor_row 3 a.floor) 0 3 a.n a.lower.now (omega arith) (omega arith) in
     grind (arith, split)

@@ -1,15 +1,16 @@
 -- The table on the knots that stand there, its poles, and their measures. Assumes nothing.
-use Rattle.std.proofs.Common.{rules}
+use Rattle.std.proofs.Common.{rules, ◌≡◌, None}
 use Rattle.fitting.proofs.AttemptLaws.{has_lines, measurable, unfitted, fitting}
 use Rattle.fitting.proofs.attempts.attempt.Goals as goal
 
 pub solve-requires : goal.solve-requires
 solve-requires c = has_lines _ _ c.requires.0 c.requires.1 _ c.fill.ensures.filled c.fill.ensures.poles_after
 
-pub returns-then-not-solve-clause-tried : goal.returns-then-not-solve-clause-tried
-returns-then-not-solve-clause-tried c =
+pub returns-in_err-solve-clause-tried : goal.returns-in_err-solve-clause-tried
+returns-in_err-solve-clause-tried c =
     let f = c.fill in
-    unfitted _ _ c.requires.0 c.requires.1 f.new.self f.ensures.filled f.ensures.poles_after c.solve.new.self c.if-not-solve.ensures _ (search rules)
+    let none : c.from_residual.result ≡ None = search rules in
+    rw none (unfitted _ _ c.requires.0 c.requires.1 f.new.self f.ensures.filled f.ensures.poles_after c.solve.new.self c.in_err-solve.ensures _ (search rules))
 
 pub measure-requires : goal.measure-requires
 measure-requires c =
@@ -20,4 +21,4 @@ measure-requires c =
 pub returns-clause-tried : goal.returns-clause-tried
 returns-clause-tried c =
     let f = c.fill in
-    fitting _ _ c.requires.0 c.requires.1 f.new.self f.ensures.filled f.ensures.poles_after c.solve.new.self c.if-not-solve.ensures _ (search rules) _ c.measure.ensures
+    fitting _ _ c.requires.0 c.requires.1 f.new.self f.ensures.filled f.ensures.poles_after c.solve.new.self c.in_ok-solve.ensures _ (search rules) _ c.measure.ensures

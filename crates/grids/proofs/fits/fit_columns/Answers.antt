@@ -1,7 +1,5 @@
 -- The columns are fitted over the rows' fit, which stays as it is. Assumes nothing.
-use Rattle.std.proofs.Common.{rules, ◌≡◌, ◌-◌, refl, arith, length, Ok, Err}
-use Rattle.fitting.specs.Room.{places_of}
-use Rattle.grids.specs.GridRuns.{columns_sizes}
+use Rattle.std.proofs.Common.{rules, ◌≡◌, refl, arith, Ok, Err}
 use Rattle.grids.proofs.RoomLaws.{u_under, columns_asked, columns_within}
 use Rattle.grids.proofs.GridRunLaws.{refused, columns_fail, columns_stand, hands_grid}
 use Rattle.grids.proofs.fits.fit_columns.Goals as goal
@@ -11,19 +9,17 @@ columns_job-job-requires-clause-params c = (c.requires.params.for_u, u_under c.r
 
 pub split_at_mut-near-requires : goal.split_at_mut-near-requires
 split_at_mut-near-requires c =
-    let room = columns_within c.requires.over c.columns_job-job.ensures c.requires.room.1 in
-    rw (c.places.ensures, c.columns_sizes-sizes.ensures) (omega (arith, room))
+    let room = columns_within c.requires.over c.columns_job-job.ensures c.requires.params.for_u c.sizes-sizes.ensures.sizes c.requires.room.1 in
+    omega (arith, c.places.ensures, room)
 
 pub new-saved-requires : goal.new-saved-requires
 new-saved-requires c =
-    let room = columns_within c.requires.over c.columns_job-job.ensures c.requires.room.1 in
-    let near : c.places.result ≡ places_of (columns_sizes c.args.grid.shape c.columns_job-job.result.lines.lines) = rw c.columns_sizes-sizes.ensures at c.places.ensures in
-    let behind : length c.split_at_mut-near.result.1.now ≡ length c.args.work.now - c.places.result = search rules in
-    (search rules, rw c.columns_sizes-sizes.ensures (omega (arith, room, near, behind)))
+    let room = columns_within c.requires.over c.columns_job-job.ensures c.requires.params.for_u c.sizes-sizes.ensures.sizes c.requires.room.1 in
+    (c.sizes-sizes.ensures.small, omega (arith, room, c.places.ensures, c.split_at_mut-near.ensures.back_len))
 
 pub make_direction-requires : goal.make_direction-requires
 make_direction-requires c =
-    columns_asked c.requires.params c.new-at.ensures c.new-saved.ensures.flat c.new-saved.ensures.poles c.requires.over c.columns_job-job.ensures refl c.columns_sizes-sizes.ensures c.column_aim.ensures
+    columns_asked c.sizes-sizes.ensures.sizes c.new-at.ensures c.new-saved.ensures.flat c.new-saved.ensures.poles c.requires.params c.columns_job-job.ensures refl c.column_aim.ensures
 
 pub returns-in_err-standing-clause-hands : goal.returns-in_err-standing-clause-hands
 returns-in_err-standing-clause-hands c =

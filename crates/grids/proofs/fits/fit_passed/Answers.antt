@@ -1,5 +1,5 @@
 -- The parameters along u stand in the first places of the work and those along v behind them; where both are found and the counts pass, the fits follow. Assumes nothing.
-use Rattle.std.proofs.Common.{rules, ◌≡◌, sym, ap, ◌∙◌, ◌+◌, ◌-◌, ◌≤◌, length, take, Err}
+use Rattle.std.proofs.Common.{rules, ◌≡◌, sym, ap, ◌∙◌, ◌+◌, ◌≤◌, length, take, Err}
 use Rattle.std.proofs.Math.Option.{some}
 use Rattle.bspline.specs.Refusals.{pass}
 use Rattle.checks.specs.Slices.{grid_in}

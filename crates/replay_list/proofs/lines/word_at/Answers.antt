@@ -1,8 +1,9 @@
--- The invariant: w is the number that the first k digits write, and they are digits. Assumes nothing.
+-- The invariant: w is the number that the digits passed write, and they are digits; the 16 bytes stand in the text from the start on. Assumes nothing.
 use Rattle.std.proofs.Common.{◌≡◌, ℕ, ◌+◌, ◌*◌, List, get_or, refl, arith, add-one}
 use lib.Dec.{lit<}
 use borrow.Author.Count.{below_more}
 use Rattle.std.specs.Prelude.{unwrap_or}
+use Rattle.places.proofs.RegionLaws.{get_d_part}
 use Rattle.card_text.specs.Text.{digit_of}
 use Rattle.card_text.proofs.NumberLaws.{more-digits}
 use Rattle.replay_list.specs.Text.{value_of}
@@ -12,15 +13,16 @@ value-more : (s : List ℕ) (a k : ℕ) → value_of s a (k + 1) ≡ value_of s 
 unfolding value_of
 value-more s a k = rw (add-one k)
 
-pub loop-k-init : goal.loop-k-init
+pub loop-b-init : goal.loop-b-init
 unfolding value_of
-loop-k-init c = record { value = refl; small = lit< tt; digits = λ j h. absurd (omega arith) }
+loop-b-init c = record { value = refl; small = lit< tt; digits = λ j h. absurd (omega arith) }
 
-pub loop-k-preserved : goal.loop-k-preserved
-loop-k-preserved c =
-    let h = c.loop-k.invariant in
-    let d = c.in_ok-d.ensures in record {
-      value = rw (value-more, ← h.value, ← d.value);
-      small = rw add-one (more-digits 16 c.loop-k.k c.loop-k.w c.in_ok-d.d h.small d.small);
-      digits = below_more _ _ h.digits (rw (← d.value));
+pub loop-b-preserved : goal.loop-b-preserved
+loop-b-preserved c =
+    let h = c.loop-b.invariant in
+    let d = c.in_ok-d.ensures in
+    let there = get_d_part c.args.start (c.args.start + 16) c.args.text.now c.loop-b.b-index 0 (omega arith) in record {
+      value = rw (value-more, ← there, ← h.value, ← d.value);
+      small = rw add-one (more-digits 16 c.loop-b.b-index c.loop-b.w c.in_ok-d.d h.small d.small);
+      digits = below_more _ _ h.digits (rw (← there, ← d.value));
     }

@@ -21,7 +21,7 @@ pub loop-i-preserved : goal.loop-i-preserved
 loop-i-preserved c =
     let o = c.loop-i in
     let row = c.measure_squares-measured in
-    grid-turn _ _ _ _ _ _ _ o.i _ o.squares c.curve_poles.new.curve o.total row.result _ o.invariant c.curve_poles.ensures (rw c.count.ensures at row.ensures) c.with_all-total.ensures
+    grid-turn _ _ _ _ _ _ _ o.i _ _ o.squares c.curve_poles.new.curve o.total row.result _ o.invariant c.curve_poles.ensures c.count.ensures row.ensures c.with_all-total.ensures
 
 pub returns : goal.returns
 returns c =

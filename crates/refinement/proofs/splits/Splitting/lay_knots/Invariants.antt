@@ -1,6 +1,10 @@
--- The loop's invariant (Laying): the knots of the spans below s stand in front. Assumes nothing.
-use Rattle.refinement.proofs.SplitLaws.{Laying}
+-- The knots of the spans passed stand in front. Assumes nothing.
+use Rattle.std.proofs.Common.{◌≡◌, ℕ, ◌<◌, length}
+use Rattle.geometry.specs.Doubles.{at}
+use Rattle.refinement.specs.Refinement.{knots_at}
 use Rattle.refinement.proofs.splits.Splitting.lay_knots.Given as goal
 
-abbrev pub invariant-loop-s : goal.invariant-loop-s
-invariant-loop-s l = Laying l.self.spans.params.now l.self.spans.ends.now l.self.worsts.now l.self.tolerance l.self.threshold l.initial.fresh l.fresh l.at l.s
+abbrev pub invariant-loop-at : goal.invariant-loop-at
+invariant-loop-at l =
+    let x = l.fn.self in
+    (k : ℕ) → k < length l.yielded → at l.fresh k ≡ at (knots_at x.spans.params.now x.spans.ends.now x.worsts.now x.tolerance x.threshold) k

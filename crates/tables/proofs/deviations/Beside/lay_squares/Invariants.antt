@@ -1,7 +1,8 @@
 -- The invariant: the first k squares stand in their places, and the measures are theirs. Assumes nothing.
 use mathlib.Core.Path.{◌≡◌}
 use Rattle.places.specs.Places.{laid, list_of}
-use Rattle.tables.specs.Measures.{squares_measured, square_beside}
+use Rattle.tables.specs.Measures.{squares_measured}
+use Rattle.tables.specs.Squares.{square_beside}
 use Rattle.tables.proofs.deviations.Beside.lay_squares.Given as goal
 
 abbrev pub invariant-loop-k : goal.invariant-loop-k

@@ -2,7 +2,8 @@
 use mathlib.Core.Path.{◌≡◌}
 use Rattle.places.specs.Places.{laid, list_of}
 use Rattle.geometry.specs.Doubles.{at, larger}
-use Rattle.tables.specs.Measures.{squares_measured, square_beside}
+use Rattle.tables.specs.Measures.{squares_measured}
+use Rattle.tables.specs.Squares.{square_beside}
 use Rattle.tables.proofs.deviations.Beside.raise_squares.Given as goal
 
 abbrev pub invariant-loop-k : goal.invariant-loop-k
