@@ -38,7 +38,7 @@ pub fn surface_poles(from: &[f64], columns: usize, count: usize, poles: &mut [f6
     }
 }
 
-// The knots of a direction's fit, and its mark and counts.
+// The knots of a direction's fit, and its mark and counts. (A ladder hands out its poles with them; a grid's are handed out transposed.)
 fn hand_direction(x: StandingFit, flat: &mut [f64], knots: &mut [f64], mults: &mut [u32]) -> Fit
     requires { HasKnotsOut x.at.now.knots.count flat.old knots.old mults.old }
     ensures { HandsDirection x.entry flat.old flat.new knots.old knots.new mults.old mults.new result }
