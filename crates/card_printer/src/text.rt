@@ -1,4 +1,4 @@
-// A text that is put into a lent slice, part after part.
+// A text that is put into a lent slice, part after part. Its words are the bits of doubles in hexadecimal digits, which no Display writes.
 ghost use Rattle.std.specs.Prelude.{◌≡◌, true, [], ◌∷◌, ◌+◌, ◌*◌, ◌/◌, ◌≤◌, length};
 ghost use Rattle.places.specs.Places.{joined};
 ghost use Rattle.card_text.specs.Text.{double_text, decimal_text, line};

@@ -1,4 +1,5 @@
-// One byte more of each part of a card's text: the state that follows, or none where the part doesn't go on with that byte.
+// One byte more of each part of a card's text: the state that follows, or none where the part doesn't go on with that byte. Each part has a state of its own, so steps
+// that are alike are no one function; whether digits are decimal or hexadecimal follows from the part.
 ghost use Rattle.std.specs.Prelude.{◌≡◌, ◌≤◌, ◌<◌, length};
 ghost use Rattle.card_reader.specs.Reading.{DigitsOf, literal_next, word_next, degree_next, names_next, chordal_next, centripetal_next, tolerance_next, without_next, axes_next, x_next, y_next, z_next, kept};
 

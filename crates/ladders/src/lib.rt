@@ -43,7 +43,7 @@ fn hand_standing(x: StandingFit, out: &mut Output) -> Fit
     }
 }
 
-// A ladder's points, as one line.
+// A ladder's points, as one line. That it passed its checks is asked: it is the caller's own value, and no type says so.
 fn line_of(ladder: Ladder) -> Lines
     requires { Shaped (length ladder.points.now) ladder.degree }
     ensures points { (on_lines result ≡ ladder_point ladder.entry.points.now) × (result.points ≡ ladder.entry.points) }

@@ -26,7 +26,7 @@ use fitting::{Job, Mark};
 use saved::SavedFit;
 use tables::Measured;
 
-// A fit that stands in its regions: its mark, and how many of its deviations are unreadable.
+// A fit that stands in its regions: its mark, and how many of its deviations are unreadable. Each step makes it with its own mark.
 #[derive(Clone, Copy)]
 pub struct Standing {
     pub mark: Mark,

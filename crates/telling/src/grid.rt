@@ -1,4 +1,4 @@
-// The grid calls.
+// The grid calls. (A grid has other slices, checks and answers than a ladder: what is alike in ladder.rt is the shape.)
 ghost use Rattle.std.specs.Prelude.{◌≡◌, ◌≤◌, length};
 ghost use Rattle.bspline.specs.Reader.{number_in};
 ghost use Rattle.checks.specs.Slices.{grid_in, grid_lent_with, SameGridOutput};
