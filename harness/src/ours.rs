@@ -24,24 +24,24 @@ unsafe extern "C" {
         values: *mut f64, values_len: usize,
     );
     fn pieces_least_squares(
-        degree: usize, m: usize, firsts: *mut usize, firsts_len: usize, values: *mut f64, values_len: usize, points: *const f64, points_len: usize,
+        degree: usize, m: usize, firsts: *const usize, firsts_len: usize, values: *const f64, values_len: usize, points: *const f64, points_len: usize,
         lines: usize, pitch: usize, stride: usize, band: *mut f64, band_len: usize, poles: *mut f64, poles_len: usize,
     ) -> bool;
     fn pieces_interpolation(
-        degree: usize, firsts: *mut usize, firsts_len: usize, values: *mut f64, values_len: usize, points: *const f64, points_len: usize,
+        degree: usize, firsts: *const usize, firsts_len: usize, values: *const f64, values_len: usize, points: *const f64, points_len: usize,
         lines: usize, pitch: usize, stride: usize, band: *mut f64, band_len: usize, poles: *mut f64, poles_len: usize,
     );
     fn pieces_ladder_deviations(
-        degree: usize, m: usize, firsts: *mut usize, firsts_len: usize, values: *mut f64, values_len: usize, poles: *const f64, poles_len: usize,
+        degree: usize, m: usize, firsts: *const usize, firsts_len: usize, values: *const f64, values_len: usize, poles: *const f64, poles_len: usize,
         points: *const f64, points_len: usize, squares: *mut f64, squares_len: usize, most: *mut f64, most_len: usize,
     ) -> usize;
     fn pieces_row_deviations(
-        degree: usize, m: usize, firsts: *mut usize, firsts_len: usize, values: *mut f64, values_len: usize, rows: usize, poles: *const f64, poles_len: usize,
+        degree: usize, m: usize, firsts: *const usize, firsts_len: usize, values: *const f64, values_len: usize, rows: usize, poles: *const f64, poles_len: usize,
         points: *const f64, points_len: usize, squares: *mut f64, squares_len: usize, most: *mut f64, most_len: usize,
     ) -> usize;
     fn pieces_grid_deviations(
-        pu: usize, mu: usize, fu: *mut usize, fu_len: usize, wu: *mut f64, wu_len: usize, pv: usize, mv: usize, fv: *mut usize, fv_len: usize,
-        wv: *mut f64, wv_len: usize, poles: *const f64, poles_len: usize, points: *const f64, points_len: usize, curve: *mut f64, curve_len: usize,
+        pu: usize, mu: usize, fu: *const usize, fu_len: usize, wu: *const f64, wu_len: usize, pv: usize, mv: usize, fv: *const usize, fv_len: usize,
+        wv: *const f64, wv_len: usize, poles: *const f64, poles_len: usize, points: *const f64, points_len: usize, curve: *mut f64, curve_len: usize,
         squares: *mut f64, squares_len: usize, most: *mut f64, most_len: usize,
     ) -> usize;
     fn pieces_curve_point(flat: *const f64, flat_len: usize, degree: usize, poles: *const f64, poles_len: usize, u: f64, out: *mut f64, out_len: usize);
@@ -239,7 +239,7 @@ impl Work {
         let points = if d.kind == 2 { &self.row_poles[..] } else { points };
         unsafe {
             pieces_least_squares(
-                p, m, self.firsts.as_mut_ptr(), n, self.values.as_mut_ptr(), n * (p + 1), points.as_ptr(), points.len(), d.lines, pitch, stride,
+                p, m, self.firsts.as_ptr(), n, self.values.as_ptr(), n * (p + 1), points.as_ptr(), points.len(), d.lines, pitch, stride,
                 self.band.as_mut_ptr(), m * (p + 1), self.poles.as_mut_ptr(), 3 * d.lines * m,
             )
         }
@@ -262,7 +262,7 @@ impl Work {
         self.band.fill(GUARD);
         unsafe {
             pieces_interpolation(
-                p, self.firsts.as_mut_ptr(), n, self.values.as_mut_ptr(), n * (p + 1), points.as_ptr(), points.len(), d.lines, pitch, stride,
+                p, self.firsts.as_ptr(), n, self.values.as_ptr(), n * (p + 1), points.as_ptr(), points.len(), d.lines, pitch, stride,
                 self.band.as_mut_ptr(), n * (2 * (p - 1) + 1), self.poles.as_mut_ptr(), 3 * d.lines * n,
             )
         }
@@ -272,7 +272,7 @@ impl Work {
     /// The largest deviation, and how many are NaN; `deviations()` are the roots of the squares that it leaves.
     pub fn measure(&mut self, points: &[f64]) -> (f64, usize) {
         let (n, p, m, lines) = (self.count, self.degree, self.m, self.given.lines);
-        let (poles, firsts, values) = (3 * lines * m, self.firsts.as_mut_ptr(), self.values.as_mut_ptr());
+        let (poles, firsts, values) = (3 * lines * m, self.firsts.as_ptr(), self.values.as_ptr());
         let mut most = [GUARD; 2];
         let unreadable = unsafe {
             if self.given.kind == 1 {
@@ -303,23 +303,21 @@ fn roots(squares: &[f64]) -> Vec<f64> {
 }
 
 /// The whole grid against the surface that the columns' fit of `u` gives, with the table of `v`: each row's deviation, the largest, and how many are NaN.
-pub fn grid_deviations(u: &mut Work, v: &mut Work, points: &[f64]) -> (Vec<f64>, f64, usize) {
+pub fn grid_deviations(u: &Work, v: &Work, points: &[f64]) -> (Vec<f64>, f64, usize) {
     let columns = u.given.lines;
     assert!(columns == v.m);
-    let mut curve = guarded(3 * columns);
+    let (mut curve, mut squares) = (guarded(3 * columns), guarded(u.count));
     let mut most = [GUARD; 2];
     let unreadable = unsafe {
         pieces_grid_deviations(
-            u.degree, u.m, u.firsts.as_mut_ptr(), u.count, u.values.as_mut_ptr(), u.count * (u.degree + 1),
-            v.degree, v.m, v.firsts.as_mut_ptr(), v.count, v.values.as_mut_ptr(), v.count * (v.degree + 1),
-            u.poles.as_ptr(), 3 * columns * u.m, points.as_ptr(), points.len(), curve.as_mut_ptr(), 3 * columns, u.squares.as_mut_ptr(), u.count,
+            u.degree, u.m, u.firsts.as_ptr(), u.count, u.values.as_ptr(), u.count * (u.degree + 1),
+            v.degree, v.m, v.firsts.as_ptr(), v.count, v.values.as_ptr(), v.count * (v.degree + 1),
+            u.poles.as_ptr(), 3 * columns * u.m, points.as_ptr(), points.len(), curve.as_mut_ptr(), 3 * columns, squares.as_mut_ptr(), u.count,
             most.as_mut_ptr(), 2,
         )
     };
-    u.checked();
-    v.checked();
-    assert!(most[1] == GUARD && curve[3 * columns] == GUARD);
-    (u.deviations(), most[0], unreadable)
+    assert!(most[1] == GUARD && curve[3 * columns] == GUARD && squares[u.count] == GUARD);
+    (roots(&squares[..u.count]), most[0], unreadable)
 }
 
 /// The four ladder calls by their numbers.

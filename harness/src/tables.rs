@@ -127,7 +127,7 @@ impl Tally {
         let poles: Vec<Point3D> = (0..count).flat_map(|k| (0..columns).map(move |l| (k, l))).map(|(k, l)| by_column[l * count + k]).collect();
         let mut theirs = vec![0.0; rows];
         grids::deviations(&lines, (&u_basis, &basis), &poles, columns, &mut theirs);
-        let (mine, largest, unreadable) = ours::grid_deviations(&mut columns_work, &mut work, &places);
+        let (mine, largest, unreadable) = ours::grid_deviations(&columns_work, &work, &places);
         let unread = grid_nans(&u_basis, &basis, &poles, columns, &lines);
         self.unreadable += unread as u64;
         self.grids += 1;

@@ -88,7 +88,7 @@ fn cubic_values(flat: &[f64], span: usize, u: f64, values: &mut [f64])
 }
 
 // The functions of any degree, two degrees in a pass: it makes those of degree j + 1 from those of degree j - 1.
-fn paired_values(flat: &[f64], span: usize, degree: usize, u: f64, values: &mut [f64])
+pub fn paired_values(flat: &[f64], span: usize, degree: usize, u: f64, values: &mut [f64])
     requires { (degree ≤ span) × (span + degree < length flat.now) × (degree < length values.old) }
     ensures { values.new ≡ basis_at flat.now degree span u ++ drop (degree + 1) values.old }
 {

@@ -40,7 +40,7 @@ pub fn pole_sum(values: &[f64], poles: &[f64], first: usize) -> Point
 }
 
 // The point at u, which the span holds.
-fn span_point(flat: &[f64], degree: usize, span: usize, poles: &[f64], u: f64) -> Point
+pub fn span_point(flat: &[f64], degree: usize, span: usize, poles: &[f64], u: f64) -> Point
     requires { (degree ≤ 25) × (degree ≤ span) × (span + degree < length flat.now) × (3 * (span + 1) ≤ length poles.now) }
     ensures { result ≡ weighted (degree + 1) (at (basis_at flat.now degree span u)) (λ a. point_at poles.now (span - degree + a)) }
 {

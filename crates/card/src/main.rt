@@ -3,7 +3,7 @@
 
 mod answer;
 
-ghost use Rattle.std.specs.Prelude.{◌≡◌, List, ℕ, ◌≤◌, IfSome, length, take, drop};
+ghost use Rattle.std.specs.Prelude.{◌≡◌, List, ℕ, ◌≤◌, is_some, length, take, drop};
 ghost use Rattle.io.specs.Counts.{IsPrefixLen};
 ghost use Rattle.card_reader.specs.Reading.{Held, HasRead};
 ghost use Rattle.card.specs.Answers.{Answered};
@@ -13,19 +13,20 @@ use card_printer::ROOM;
 use card_reader::{PLACES, State};
 use std::io::{Read, Stdin};
 
-// Reads a part of the text: the state after it, or none where the read brings no byte, at the end or because it failed.
-fn read_some(mut stdin: Stdin, state: State, points: &mut [f64]) -> Option<State>
-    requires held { Held state }
+// Reads a part of the text into the state; none where the read brings no byte, at the end or because it failed.
+fn read_some(mut stdin: Stdin, state: &mut State, points: &mut [f64]) -> Option<()>
+    requires held { Held state.old }
     requires room { PLACES ≤ length points.old }
-    ensures held { IfSome result Held }
-    ensures took { Took state points.old points.new result }
+    ensures held { Held state.new }
+    ensures took { Took state.old points.old state.new points.new (is_some result) }
 {
     let mut buffer = io::large_buffer();
     let count = stdin.read(&mut buffer).unwrap_or(0);
     if count == 0 {
         return None;
     }
-    Some(state.feed(&buffer[..count], points))
+    *state = state.feed(&buffer[..count], points);
+    Some(())
 }
 
 // Reads to the end. Nothing says that an input ends, so there are no more reads than a number that no run uses up.
@@ -35,10 +36,9 @@ fn read_all(stdin: Stdin, points: &mut [f64]) -> State
 {
     let mut state = State::start();
     for _ in 0..u64::MAX {
-        let Some(next) = read_some(stdin, state, points) else {
+        if read_some(stdin, &mut state, points).is_none() {
             break;
-        };
-        state = next;
+        }
     }
     state
 }

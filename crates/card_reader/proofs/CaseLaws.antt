@@ -8,7 +8,7 @@ use lib.ListN.{length, get_or}
 use borrow.Author.Tests.{eqb-true, eqb-false, ltb-true, lt-ltb, eq-eqb}
 use Rattle.std.specs.Prelude.{Option, Some, None, option_map, option_and_then, unwrap_or}
 use Rattle.card_text.specs.Text.{digit_of}
-use Rattle.card_reader.specs.Reading.{literal_next, word_next, degree_next, degree_digit, on_word, digit_more}
+use Rattle.card_reader.specs.Reading.{literal_next, word_next, degree_next, degree_digit, on_word, on_whole, digit_more}
 use Rattle.card_reader.specs.declared.Digits.{Digits}
 use Rattle.card_reader.specs.declared.State.{State}
 use Rattle.card_reader.specs.declared.State.TheVariants.{Degree, Chordal, Unreadable}
@@ -57,6 +57,10 @@ word_parts Q r b end f g h =
     go : (o : Option ℕ) → ((d : ℕ) → o ≡ Some d → Q (Some (More (digit_more 16 r d)))) → Q (option_map (λ d. More (digit_more 16 r d)) o)
     go (Some d) k = k d refl
     go None k = h
+
+-- before its end a word is not whole
+pub word_goes_on : {A : Type 0} (f : ℕ → A) (x : A) (r : Digits) (b end : ℕ) → ((r.count ≡ 16) × (b ≡ end) → ⊥) → on_whole f x (word_next r b end) ≡ x
+word_goes_on f x r b end h = word_parts (λ w. on_whole f x w ≡ x) r b end (λ e l. absurd (h (e, l))) (λ e d l. refl) refl
 
 pub word_cases : (P : State → Type 0) (more : Digits → State) (whole : ℕ → State) (r : Digits) (b end : ℕ)
     → (r.count ≡ 16 → b ≡ end → P (whole r.value))

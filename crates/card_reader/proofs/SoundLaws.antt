@@ -21,7 +21,7 @@ use Rattle.knots.specs.declared.Spacing.TheVariants as spacing
 use Rattle.card_reader.specs.declared.Digits.{Digits}
 use Rattle.card_reader.specs.declared.State.{State}
 use Rattle.card_reader.specs.declared.State.TheVariants.{Names, Degree, Chordal, Centripetal, Bound, Without, Axes, X, Y, Z, Unreadable}
-use Rattle.card_reader.proofs.CaseLaws.{literal_cases, word_parts, word_cases, degree_cases, both, Reaches}
+use Rattle.card_reader.proofs.CaseLaws.{test, literal_cases, word_parts, word_cases, degree_cases, both, Reaches}
 use Rattle.card_text.proofs.NumberLaws.{digits_more, decimal-digits}
 use Rattle.card_reader.proofs.DigitLaws.{IsGlyph, glyph_digit}
 use Rattle.card_reader.proofs.RangeLaws.{none_yet, one_digit_more}
@@ -138,7 +138,7 @@ rows_more [] p f g = (g, tt)
 rows_more (q ∷ ps) p f g = (f.0, rows_more ps p f.1 g)
 
 pub count-more : (n m : ℕ) → n ≡ min 65 m → more n ≡ min 65 (m + 1)
-count-more n m e = omega arith
+count-more n m e = test (λ k. k ≡ min 65 (m + 1)) (ltb n 65) _ _ (λ l. omega (arith, ltb-true n 65 l)) (λ l. omega (arith, ltb-false n 65 l))
 
 -- a word's last digit is read
 whole : (base k v b end : ℕ) → k ≡ 16 → b ≡ end → digits base k v ++ (b ∷ []) ≡ digits base 16 v ++ (end ∷ [])

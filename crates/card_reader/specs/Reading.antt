@@ -1,5 +1,5 @@
 -- Reading a card a byte at a time: what each state and byte lead to. Definitions only; what they come to is said in Judged.
-use Rattle.std.specs.Prelude.{ℕ, Option, Some, None, unwrap_or, option_map, option_and_then, Result, Ok, Err, ◌+◌, ◌*◌, ◌^◌, ◌≤◌, ◌<◌, ◌≡◌, min, cond, ◌&&◌, List, [], ◌∷◌, ◌++◌, ltb, eqb, Float, length, get_or}
+use Rattle.std.specs.Prelude.{ℕ, Option, Some, None, unwrap_or, option_map, option_and_then, Result, Ok, Err, ◌+◌, ◌*◌, ◌^◌, ◌≤◌, ◌<◌, ◌≡◌, cond, ◌&&◌, List, [], ◌∷◌, ◌++◌, ltb, eqb, Float, length, get_or}
 use Rattle.card_text.specs.Text.{digit_of, coordinate_names}
 use Rattle.card_reader.specs.Card.{head_names, spacing_text, tolerance_text, row, point_of}
 use Rattle.geometry.specs.Points.{put_point}
@@ -107,7 +107,7 @@ y_next c x r b = option_map (on_word (Y c x) (λ w. Z c x w no_digits)) (word_ne
 
 -- one point more, and 65 for every larger number
 abbrev pub more : ℕ → ℕ
-more n = min n 64 + 1
+more n = cond (ltb n 65) (n + 1) n
 
 abbrev pub z_next : Card → ℕ → ℕ → Digits → ℕ → Option State
 z_next c x y r b = option_map (on_word (Z c x y) (λ w. X (card_of c.head (more c.points)) no_digits)) (word_next r b 10)

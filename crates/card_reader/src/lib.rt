@@ -87,7 +87,8 @@ impl CardError {
     }
 }
 
-// Lays the point of three words down as point n.
+// Lays the point of three words down as point n. Not inlined, since 64 points of a text are laid at most, and the loop over its bytes is shorter without it.
+#[inline(never)]
 fn lay(n: usize, x: u64, y: u64, z: u64, points: &mut [f64])
     requires index { n < POINTS }
     requires room { PLACES ≤ length points.old }
@@ -109,13 +110,11 @@ impl State {
         State::Names(0)
     }
 
-    // The state after one byte more, where the text may go on with it. A byte that ends a point's line lays that point down, if it is one of the first 64.
-    #[tactic(auto, unfolding(crate::specs::Reading::reached, crate::specs::Reading::kept))]
-    fn reach(self, b: u8, points: &mut [f64]) -> Option<State>
-        requires held { Held self }
-        requires room { PLACES ≤ length points.old }
-        ensures state { result ≡ reached self b }
-        ensures points { points.new ≡ kept self b points.old }
+    // The state after one byte more, where the text may go on with it.
+    #[tactic(auto, unfolding(crate::specs::Reading::reached))]
+    fn reach(self, b: u8) -> Option<State>
+        requires { Held self }
+        ensures { result ≡ reached self b }
     {
         match self {
             State::Names(k) => steps::names(k, b),
@@ -127,19 +126,31 @@ impl State {
             State::Axes(h, k) => steps::axes(h, k, b),
             State::X(card, read) => steps::x(card, read, b),
             State::Y(card, x, read) => steps::y(card, x, read, b),
-            State::Z(card, x, y, read) => steps::z(card, x, y, read, b, points),
+            State::Z(card, x, y, read) => steps::z(card, x, y, read, b),
             State::Unreadable => None,
         }
     }
 
-    // The state and the points after one byte more.
-    pub fn step(self, b: u8, points: &mut [f64]) -> State
-        requires held { Held self }
-        requires room { PLACES ≤ length points.old }
-        ensures state { result ≡ next self b }
-        ensures points { points.new ≡ kept self b points.old }
+    // The state after one byte more.
+    pub fn step(self, b: u8) -> State
+        requires { Held self }
+        ensures { result ≡ next self b }
     {
-        self.reach(b, points).unwrap_or(State::Unreadable)
+        self.reach(b).unwrap_or(State::Unreadable)
+    }
+
+    // The points after one byte more: where it ends a point's line, and that is one of the first 64, the point is laid down.
+    #[tactic(auto, using(crate::proofs::CaseLaws::word_goes_on), unfolding(crate::specs::Reading::kept, crate::specs::Reading::word_next))]
+    pub fn keep(self, b: u8, points: &mut [f64])
+        requires { PLACES ≤ length points.old }
+        ensures { points.new ≡ kept self b points.old }
+    {
+        let State::Z(card, x, y, read) = self else {
+            return;
+        };
+        if read.count == 16 && b == b'\n' && card.points < POINTS {
+            lay(card.points, x, y, read.value, points);
+        }
     }
 
     // The state and the points after a part of the text.
@@ -152,7 +163,8 @@ impl State {
     {
         let mut state = self;
         for b in text {
-            state = state.step(*b, points);
+            state.keep(*b, points);
+            state = state.step(*b);
         }
         state
     }

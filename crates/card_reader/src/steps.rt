@@ -1,9 +1,9 @@
 // One byte more of each part of a card's text: the state that follows, or none where the part doesn't go on with that byte. Each part has a state of its own, so steps
 // that are alike are no one function; whether digits are decimal or hexadecimal follows from the part.
-ghost use Rattle.std.specs.Prelude.{◌≡◌, ◌≤◌, ◌<◌, length};
-ghost use Rattle.card_reader.specs.Reading.{DigitsOf, literal_next, word_next, degree_next, names_next, chordal_next, centripetal_next, tolerance_next, without_next, axes_next, x_next, y_next, z_next, kept};
+ghost use Rattle.std.specs.Prelude.{◌≡◌, ◌<◌, length};
+ghost use Rattle.card_reader.specs.Reading.{DigitsOf, literal_next, word_next, degree_next, names_next, chordal_next, centripetal_next, tolerance_next, without_next, axes_next, x_next, y_next, z_next};
 
-use crate::{Card, Digits, Head, PLACES, POINTS, State};
+use crate::{Card, Digits, Head, POINTS, State};
 use knots::Spacing;
 
 // A word of which a byte more is read: its digits, or the whole word, which has ended. (In a Result a whole word
@@ -181,22 +181,16 @@ pub fn y(card: Card, x: u64, read: Digits, b: u8) -> Option<State>
     })
 }
 
-// The point of a whole line is laid down, if it is one of the first 64.
-#[tactic(auto, unfolding(crate::specs::Reading::kept))]
-pub fn z(card: Card, x: u64, y: u64, read: Digits, b: u8, points: &mut [f64]) -> Option<State>
-    requires held { DigitsOf 16 16 read }
-    requires room { PLACES ≤ length points.old }
-    ensures state { result ≡ z_next card x y read b }
-    ensures points { points.new ≡ kept (State.Z card x y read) b points.old }
+pub fn z(card: Card, x: u64, y: u64, read: Digits, b: u8) -> Option<State>
+    requires { DigitsOf 16 16 read }
+    ensures { result ≡ z_next card x y read b }
 {
     Some(match word_digit(read, b, b'\n')? {
         Word::More(read) => State::Z(card, x, y, read),
-        Word::Whole(z) => {
-            if card.points < POINTS {
-                crate::lay(card.points, x, y, z, points);
-            }
+        Word::Whole(_) => {
+            let n = card.points;
             let more = Card {
-                points: card.points.min(POINTS) + 1,
+                points: if n <= POINTS { n + 1 } else { n },
                 ..card
             };
             State::X(more, Digits::NONE)

@@ -51,7 +51,7 @@ pub fn check_unchosen(n: usize, degree: usize) -> Result<(), Refusal>
 }
 
 // 3 and 4.
-fn check_count(call: Call, n: usize, degree: usize) -> Result<(), Refusal>
+pub fn check_count(call: Call, n: usize, degree: usize) -> Result<(), Refusal>
     ensures { result ≡ count_verdict call n degree }
 {
     match call {

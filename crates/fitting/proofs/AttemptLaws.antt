@@ -15,7 +15,7 @@ use Rattle.knots.specs.OnLines.{on_lines}
 use Rattle.tables.specs.declared.Measured.{Measured}
 use Rattle.tables.specs.BasisTable.{BasisTable, basis_table}
 use Rattle.tables.specs.Directions.{Direction}
-use Rattle.tables.specs.Layout.{table_of, Filled}
+use Rattle.tables.specs.Layout.{table_in, Filled}
 use Rattle.tables.specs.Measures.{measured, LeavesSquares}
 use Rattle.solving.specs.LeastSquares.{least_squares}
 use Rattle.solving.specs.Interpolation.{interpolation}
@@ -49,7 +49,7 @@ module _ (j : Job) (g : Regions) (has : HasRegions j g) (knots : HasKnots j g.kn
   flat-long : length (flat_of g.knots) ≡ g.knots.count
   flat-long = length-take-le g.knots.count g.knots.places.now (omega (arith, has.flat, knots.most))
 
-  table_is : table_of x₁.table ≡ table_on (direction_of j) (flat_of g.knots)
+  table_is : table_in x₁.table ≡ table_on (direction_of j) (flat_of g.knots)
   unfolding direction_of
   table_is = filled.table ∙ ap (λ (p : ℕ). basis_table flat p j.params.now) has.degree
 
@@ -118,12 +118,12 @@ module _ (j : Job) (g : Regions) (has : HasRegions j g) (knots : HasKnots j g.kn
       unfolding candidate direction_of
       distances_are =
           let count : pole_count j.degree flat ≡ x₂.table.poles = rw (table, poles_are, flat-long) refl in
-          let here : table_of x₂.table ≡ table_on d flat = rw table table_is in
+          let here : table_in x₂.table ≡ table_on d flat = rw table table_is in
           ap (λ (c : Candidate). c.distances) candidate_is ∙ rw (count, here) refl
 
   -- least squares of the lines is the direction's
   fit_is : fit_on (direction_of j) (flat_of g.knots)
-      ≡ candidate_of (direction_of j) (flat_of g.knots) (table_on (direction_of j) (flat_of g.knots)) (least_squares (table_of x₁.table) x₁.table.poles j.lines.lines (on_lines j.lines))
+      ≡ candidate_of (direction_of j) (flat_of g.knots) (table_on (direction_of j) (flat_of g.knots)) (least_squares (table_in x₁.table) x₁.table.poles j.lines.lines (on_lines j.lines))
   unfolding fit_on direction_of
   fit_is =
       let count : pole_count j.degree flat ≡ x₁.table.poles = rw (poles_are, flat-long) refl in

@@ -14,7 +14,7 @@ use Rattle.geometry.specs.Doubles.{largest}
 use Rattle.knots.specs.Knots.{bezier_knots}
 use Rattle.knots.proofs.KnotLaws.{length_bezier}
 use Rattle.tables.specs.declared.Measured.{Measured}
-use Rattle.tables.specs.declared.basis_table.Table.{Table}
+use Rattle.tables.specs.declared.basis_table.TablePlaces.{TablePlaces}
 use Rattle.tables.specs.Deviations.{largest_within}
 use Rattle.tables.specs.Directions.{Direction}
 use Rattle.tables.specs.Measures.{measured}
@@ -135,7 +135,7 @@ module _ (j : Job) (t : Float) (g g' : Regions) where
     round_fits h = round-within d t flat f fit_there (test_is ∙ h)
 
     -- with a splitting after it
-    module _ {k : FlatKnots} {x' : Table} {squares fresh : List Float} {r : Option (Unit {0})}
+    module _ {k : FlatKnots} {x' : TablePlaces} {squares fresh : List Float} {r : Option (Unit {0})}
         (z : Refined j g'.knots k g'.fit.table x' g'.squares.now squares g'.fresh.now fresh t y.largest r) where
       next_is : refined_knots d.params (table_on d flat).firsts (d.deviations f.distances) (largest f.distances) t d.degree flat ≡ next_in r k
       unfolding direction_of
@@ -150,7 +150,7 @@ module _ (j : Job) (t : Float) (g g' : Regions) where
 abbrev pub relaid : Regions → FlatKnots → Regions
 relaid g k = record { knots = k; fit = g.fit; band = g.band; curve = g.curve; squares = g.squares; fresh = g.fresh }
 
-abbrev pub resplit : Regions → FlatKnots → Table → List Float → List Float → Regions
+abbrev pub resplit : Regions → FlatKnots → TablePlaces → List Float → List Float → Regions
 resplit g k x squares fresh = record {
   knots = k;
   fit = record { table = x; poles = g.fit.poles };
@@ -236,7 +236,7 @@ module _ {j : Job} {t : Float} where
           };
         }
 
-        module _ (beyond : le y.largest t ≡ false) {k : FlatKnots} {x' : Table} {squares fresh : List Float} where
+        module _ (beyond : le y.largest t ≡ false) {k : FlatKnots} {x' : TablePlaces} {squares fresh : List Float} where
           split_regions : {r : Option (Unit {0})} → Refined j g'.knots k g'.fit.table x' g'.squares.now squares g'.fresh.now fresh t y.largest r
               → HasRegions j (resplit g' k x' squares fresh)
           split_regions z =

@@ -11,7 +11,7 @@ use Rattle.fitting.specs.declared.Kind.TheVariants.{Ladder, Rows, Columns}
 pub record HasKind (n : ℕ) (l : Lines) (kind : Kind) : Type 0 where
   pub ladder : kind ≡ Ladder → (l.lines ≡ 1) × (3 * n ≤ length l.points.now)
   pub rows : kind ≡ Rows → 3 * (l.lines * n) ≤ length l.points.now
-  pub columns : (s : Surface) → kind ≡ Columns s → HasTable s.across.now × ((s.across.now.poles ≡ l.lines) × (3 * (n * length s.across.now.firsts.now) ≤ length s.points.now))
+  pub columns : (s : Surface) → kind ≡ Columns s → HasTable s.across × ((s.across.poles ≡ l.lines) × (3 * (n * length s.across.firsts.now) ≤ length s.points.now))
 
 -- more parameters than the degree, and up to 64 lines with a point for each
 pub record HasJob (degree : ℕ) (params : List Float) (l : Lines) (kind : Kind) : Type 0 where

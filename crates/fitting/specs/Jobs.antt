@@ -7,7 +7,7 @@ use Rattle.knots.specs.OnLines.{on_lines}
 use Rattle.tables.specs.declared.Measured.{Measured}
 use Rattle.tables.specs.BasisTable.{BasisTable}
 use Rattle.tables.specs.Deviations.{ladder_distances, row_distances, grid_distances, point_deviations, largest_over_rows, largest_over_columns, all_within, largest_within}
-use Rattle.tables.specs.Layout.{table_of}
+use Rattle.tables.specs.Layout.{table_of, table_in}
 use Rattle.tables.specs.Measures.{measured}
 use Rattle.tables.specs.Directions.{Direction, transposed}
 use Rattle.search.specs.Search.{fewest}
@@ -26,12 +26,12 @@ use Rattle.fitting.specs.Within.{Candidate, Marked, spread, candidate, table_on,
 unfoldable pub distances_by : Float → Lines → Kind → BasisTable → ℕ → List Float → List Float
 distances_by f l Ladder = λ t m poles. ladder_distances f t poles l.points.now
 distances_by f l Rows = λ t m poles. row_distances f l.lines t m poles l.points.now
-distances_by f l (Columns s) = λ t m poles. grid_distances f t (table_of s.across.now) l.lines (transposed l.lines m poles) s.points.now
+distances_by f l (Columns s) = λ t m poles. grid_distances f t (table_of s.across) l.lines (transposed l.lines m poles) s.points.now
 
 unfoldable pub deviations_by : ℕ → ℕ → Kind → List Float → List Float
 deviations_by lines n Ladder = point_deviations
 deviations_by lines n Rows = largest_over_rows lines n
-deviations_by lines n (Columns s) = largest_over_columns n (length s.across.now.firsts.now)
+deviations_by lines n (Columns s) = largest_over_columns n (length s.across.firsts.now)
 
 unfoldable pub within_by : Kind → Float → List Float → Bool
 within_by Ladder = all_within
@@ -65,7 +65,7 @@ pub record HasKnots (j : Job) (l : ℕ) : Type 0 where
 
 -- the distances of the fit whose table and poles stand there
 abbrev pub distances_on : Job → Fitted → List Float
-distances_on j x = (direction_of j).distances (table_of x.table) x.table.poles (poles_of j.lines.lines x)
+distances_on j x = (direction_of j).distances (table_in x.table) x.table.poles (poles_of j.lines.lines x)
 
 -- the poles on the flat knots that stand in the regions, and both as a fit
 abbrev pub poles_in : Job → Regions → List Float

@@ -3,7 +3,7 @@ use Rattle.std.specs.Prelude.{◌≡◌, Bool, cond, List, ℕ, ◌*◌, ◌≤�
 use Rattle.std.proofs.Math.Option.{none, some}
 use Rattle.knots.specs.declared.lines.Lines.{Lines}
 use Rattle.knots.specs.OnLines.{on_lines}
-use Rattle.tables.specs.Layout.{table_of, HasTable}
+use Rattle.tables.specs.Layout.{table_in, HasTableIn}
 use Rattle.solving.specs.LeastSquares.{least_squares}
 use Rattle.solving.specs.Interpolation.{interpolation}
 use Rattle.fitting.specs.declared.Job.{Job}
@@ -17,7 +17,7 @@ poles_of lines x = take (3 * (lines * x.table.poles)) x.poles.now
 
 -- a table of no more poles than parameters, lines with a point for each, and the places of the matrix and of the poles
 pub record HasLines (x : Fitted) (l : Lines) (band : ℕ) : Type 0 where
-  pub table : HasTable x.table
+  pub table : HasTableIn x.table
   pub most : x.table.poles ≤ length x.table.firsts.now
   pub points : l.count ≡ length x.table.firsts.now
   pub one : 1 ≤ l.lines
@@ -27,13 +27,13 @@ pub record HasLines (x : Fitted) (l : Lines) (band : ℕ) : Type 0 where
 
 -- What least squares leaves: whether there is a fit, and then its poles.
 pub record Solved (x x' : Fitted) (l : Lines) (r : Bool) : Type 0 where
-  pub answer : least_squares (table_of x.table) x.table.poles l.lines (on_lines l) ≡ cond r (some (poles_of l.lines x')) none
+  pub answer : least_squares (table_in x.table) x.table.poles l.lines (on_lines l) ≡ cond r (some (poles_of l.lines x')) none
   pub table : x'.table ≡ x.table
   pub long : length x'.poles.now ≡ length x.poles.now
 
 -- What interpolation leaves.
 pub record Passed (x x' : Fitted) (l : Lines) : Type 0 where
-  pub poles : poles_of l.lines x' ≡ interpolation (table_of x.table) l.lines (on_lines l)
+  pub poles : poles_of l.lines x' ≡ interpolation (table_in x.table) l.lines (on_lines l)
   pub table : x'.table ≡ x.table
   pub long : length x'.poles.now ≡ length x.poles.now
 
@@ -41,11 +41,11 @@ pub record Passed (x x' : Fitted) (l : Lines) : Type 0 where
 unfoldable pub curve_places : Kind → ℕ
 curve_places Ladder = 0
 curve_places Rows = 0
-curve_places (Columns s) = 3 * s.across.now.poles
+curve_places (Columns s) = 3 * s.across.poles
 
 -- a fit to be measured: a parameter for each of the job's, and the places of a curve's poles and of the squares
 pub record HasFit (j : Job) (x : Fitted) (curve squares : ℕ) : Type 0 where
-  pub table : HasTable x.table
+  pub table : HasTableIn x.table
   pub params : length x.table.firsts.now ≡ length j.params.now
   pub most : x.table.poles ≤ length j.params.now
   pub places : 3 * (j.lines.lines * length j.params.now) ≤ length x.poles.now

@@ -36,7 +36,7 @@ impl Fitted<'_> {
         let size = m * (self.table.degree + 1);
         let places = 3 * (lines.lines * m);
         least_squares(
-            &self.table,
+            &self.table.table(),
             lines,
             &mut band[..size],
             &mut self.poles[..places],
@@ -53,7 +53,7 @@ impl Fitted<'_> {
         let size = n * (2 * (self.table.degree - 1) + 1);
         let places = 3 * (lines.lines * n);
         interpolation(
-            &self.table,
+            &self.table.table(),
             lines,
             &mut band[..size],
             &mut self.poles[..places],
@@ -73,7 +73,7 @@ impl Job<'_, '_, '_, '_> {
         requires { HasFit self fit.now (length curve.old) (length squares.old) }
         ensures { LeavesSquares (direction_of self.entry).deviations (distances_on self.entry fit.now) squares.new result }
     {
-        let table = &fit.table;
+        let table = &fit.table.table();
         let lines = self.lines.lines;
         let poles = &fit.poles[..3 * (lines * table.poles)];
         let points = self.lines.points;
@@ -82,7 +82,7 @@ impl Job<'_, '_, '_, '_> {
             Kind::Ladder => ladder_deviations(points, factor, table, poles, squares),
             Kind::Rows => row_deviations(points, factor, table, lines, poles, squares),
             Kind::Columns(s) => {
-                grid_deviations(s.points, factor, table, s.across, poles, curve, squares)
+                grid_deviations(s.points, factor, table, &s.across, poles, curve, squares)
             }
         }
     }

@@ -6,7 +6,7 @@ ghost use Rattle.knots.specs.Calls.{KnotRoom};
 ghost use Rattle.fitting.specs.Flat.{Laid, HasRound, Refined};
 
 use crate::Job;
-use tables::basis_table::Table;
+use tables::basis_table::TablePlaces;
 
 // Flat knots: the first `count` of the places, which are lent (a Vec would take them from the heap).
 #[derive(Drop)]
@@ -53,7 +53,7 @@ impl FlatKnots<'_> {
     pub fn refine(
         &mut self,
         job: Job,
-        table: &mut Table,
+        table: &mut TablePlaces,
         squares: &mut [f64],
         fresh: &mut [f64],
         tolerance: f64,

@@ -60,7 +60,7 @@ pub struct Fit {
 #[derive(Clone, Copy)]
 pub struct Surface<'a, 'b> {
     pub points: &'a [f64],
-    pub across: &'a Table<'b>,
+    pub across: Table<'b>,
 }
 
 // What the lines of a direction are: a ladder's points; a grid's rows, along v; or the columns of the row poles, along u, whose fits are measured against the

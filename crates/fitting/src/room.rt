@@ -1,11 +1,11 @@
 // The places that a direction is fitted in, as parts of the lent work and index.
 use crate::flat::FlatKnots;
-use tables::basis_table::Table;
+use tables::basis_table::TablePlaces;
 
-// A basis table, and the poles of the fit on its knots, line after line, in the first of their places.
+// The places of a basis table, and of the poles of the fit on its knots, line after line, in the first of them.
 #[derive(Drop)]
 pub struct Fitted<'a> {
-    pub table: Table<'a>,
+    pub table: TablePlaces<'a>,
     pub poles: &'a mut [f64],
 }
 
@@ -67,7 +67,7 @@ impl<'a> Regions<'a> {
         let (squares, work) = work.split_at_mut(n);
         let (fresh, _) = work.split_at_mut(n);
         let (firsts, _) = index.split_at_mut(n);
-        let table = Table {
+        let table = TablePlaces {
             degree: p,
             poles: 0,
             firsts,

@@ -6,10 +6,10 @@ use lib.ListN.{length}
 use lib.Ieee.{Float}
 use Rattle.geometry.specs.declared.Point.{Point}
 use Rattle.knots.specs.OnLines.{on_lines}
-use Rattle.tables.specs.declared.basis_table.Table.{Table}
+use Rattle.tables.specs.declared.basis_table.TablePlaces.{TablePlaces}
 use Rattle.tables.specs.BasisTable.{BasisTable, basis_table, parameter_count}
 use Rattle.tables.specs.Deviations.{row_distances, grid_distances, largest_over_rows, largest_over_columns, largest_within}
-use Rattle.tables.specs.Layout.{table_of}
+use Rattle.tables.specs.Layout.{table_in, Reads}
 use Rattle.tables.specs.Directions.{Direction, row_point, column_point, transposed, grid_rows, grid_columns}
 use Rattle.checks.specs.declared.given.Grid.{Grid}
 use Rattle.fitting.specs.declared.Job.{Job}
@@ -84,12 +84,12 @@ columns_by-same : (d d' : ℕ) (ps ps' : List Float) (l l' : ℕ) (q q' : ℕ �
     → columns_by d ps l q f v s ≡ columns_by d' ps' l' q' f' v' s'
 columns_by-same d d' ps ps' l l' q q' f f' v v' s s' a b c e g h i = rw (a, b, c, e, g, h, i)
 
-of_columns : (j : Job) (k : Kind) (points : List Float) (t : Table) → OnSurface k (λ s. (s.points.now ≡ points) × (s.across.now ≡ t))
-    → of_kind j k ≡ columns_by j.degree j.params.now j.lines.lines (on_lines j.lines) j.factor (table_of t) points
+of_columns : (j : Job) (k : Kind) (points : List Float) (t : TablePlaces) → OnSurface k (λ s. (s.points.now ≡ points) × Reads t s.across)
+    → of_kind j k ≡ columns_by j.degree j.params.now j.lines.lines (on_lines j.lines) j.factor (table_in t) points
 unfolding distances_by deviations_by within_by
 of_columns j Ladder points t s = absurd s
 of_columns j Rows points t s = absurd s
-of_columns j (Columns s) points t e = rw (e.0, e.1)
+of_columns j (Columns s) points t e = rw (e.0, e.1.0, e.1.2, e.1.3)
 
 pub columns_direction : {g : Grid} {rows : StandingFit} {us : List Float} {j : Job} → OverRows g rows → ColumnsJob g rows us j
     → direction_of j ≡ along_u g.metric.factor g.points.now g.shape us rows.job.params.now (unmarked (stood rows))
@@ -97,7 +97,7 @@ unfolding direction_of along_u grid_columns
 columns_direction {g} {rows} {us} {j} o c =
     let v : Candidate = unmarked (stood rows) in
     let n : count_of rows ≡ pole_count g.shape.v v.flat = sym (stood-count rows) ∙ ap (λ (d : ℕ). pole_count d v.flat) o.job.degree in
-    let t : table_of rows.at.now.fit.table ≡ basis_table v.flat g.shape.v rows.job.params.now = o.table ∙ ap (λ (l : List Float). basis_table l g.shape.v rows.job.params.now) (sym (stood-flat rows)) in
+    let t : table_in rows.at.now.fit.table ≡ basis_table v.flat g.shape.v rows.job.params.now = o.table ∙ ap (λ (l : List Float). basis_table l g.shape.v rows.job.params.now) (sym (stood-flat rows)) in
     let q : on_lines j.lines ≡ column_point v.poles (pole_count g.shape.v v.flat) = c.points ∙ ap (λ (l : List Float). column_point l (count_of rows)) (sym (stood-poles rows)) ∙ ap (column_point v.poles) n in
     of_columns j j.kind g.points.now rows.at.now.fit.table c.kind
     ∙ columns_by-same _ _ _ _ _ _ _ _ _ _ _ _ _ _ c.degree c.params (c.lines ∙ n) q c.factor t refl

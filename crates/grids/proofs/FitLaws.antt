@@ -22,7 +22,8 @@ use Rattle.making.specs.declared.StandingFit.{StandingFit}
 use Rattle.making.specs.HandedOut.{HandedKnots}
 use Rattle.making.specs.Runs.{standing_in}
 use Rattle.making.proofs.MakeLaws.{fit_same, unmarked_as, mark_as}
-use Rattle.grids.specs.GridRuns.{stood, count_of, TableStands, HandsDirection}
+use Rattle.grids.specs.declared.output.Placed.{Placed}
+use Rattle.grids.specs.GridRuns.{stood, count_of, TableStands, placed, count_in, direction_fit, HandsDirection}
 
 -- ---- the table of a fit's knots
 
@@ -87,16 +88,17 @@ module _ (x : StandingFit) where
   pub stood-count : pole_count x.job.degree (unmarked (stood x)).flat ≡ count_of x
   stood-count = rw (stood-flat, flat_long)
 
-  handed_back : fit_of x.job.degree (stood x) ≡ record { mark = x.standing.mark; poles = count_of x; knots = distinct_knots (flat_of x.at.now.knots); unreadable = x.standing.unreadable }
+  pub handed_back : fit_of x.job.degree (stood x) ≡ direction_fit (placed x)
   unfolding fit_of standing_in
   handed_back =
       fit_same _ _ _ _ _ _ _ _ (sym (mark_as x.standing.mark (count_of x) (candidate_in x.job x.at.now) x.stands.most)) stood-count (ap distinct_knots stood-flat)
       (ap (λ (f : Candidate). unreadable f.distances) standing-is ∙ sym x.stands.unread)
 
-  pub hands_direction : {flat flat' knots knots' : List Float} {mults mults' : List ℕ} {r : ℕ} → HandedKnots (flat_of x.at.now.knots) flat flat' knots knots' mults mults' r
-      → HandsDirection x flat flat' knots knots' mults mults' (record { mark = x.standing.mark; poles = count_of x; knots = r; unreadable = x.standing.unreadable })
-  hands_direction h = record {
-    answer = rw h.runs.count (sym handed_back);
-    poles = refl;
-    handed = record { for_flat = h.for_flat; runs = record { count = refl; values = h.runs.values; multiplicities = h.runs.multiplicities } };
-  }
+-- a direction's knots, as they are handed out
+pub hands_direction : (x : Placed) {flat flat' knots knots' : List Float} {mults mults' : List ℕ} {r : ℕ} → HandedKnots (flat_of x.at.now.knots) flat flat' knots knots' mults mults' r
+    → HandsDirection x flat flat' knots knots' mults mults' (record { mark = x.standing.mark; poles = count_in x; knots = r; unreadable = x.standing.unreadable })
+hands_direction x h = record {
+  answer = fit_same _ _ _ _ _ _ _ _ refl refl h.runs.count refl;
+  poles = refl;
+  handed = record { for_flat = h.for_flat; runs = record { count = refl; values = h.runs.values; multiplicities = h.runs.multiplicities } };
+}

@@ -8,6 +8,7 @@ use lib.ListN.{length}
 use lib.Ieee.{Float}
 use Rattle.bspline.specs.Refusals.{pass}
 use Rattle.bspline.proofs.CheckLaws.{both_pass}
+use Rattle.tables.specs.Layout.{Reads}
 use Rattle.checks.specs.declared.Aim.{Aim}
 use Rattle.checks.specs.declared.Shape.{Shape}
 use Rattle.checks.specs.declared.SurfaceCall.{SurfaceCall}
@@ -63,11 +64,11 @@ rows-sized : {g : Grid} {vs : List Float} {j : Job} → RowsJob g vs j → lengt
 unfolding curve_places
 rows-sized r n = sized-same _ _ _ _ _ _ _ _ r.degree (ap length r.params ∙ n) r.lines (ap curve_places r.kind)
 
-curve-long : (k : Kind) (rows : StandingFit) (n : ℕ) (points : List Float) → OnSurface k (λ s. (s.points.now ≡ points) × (s.across.now ≡ rows.at.now.fit.table)) → rows.at.now.fit.table.poles ≡ n → curve_places k ≡ 3 * n
+curve-long : (k : Kind) (rows : StandingFit) (n : ℕ) (points : List Float) → OnSurface k (λ s. (s.points.now ≡ points) × Reads rows.at.now.fit.table s.across) → rows.at.now.fit.table.poles ≡ n → curve_places k ≡ 3 * n
 unfolding curve_places
 curve-long Ladder rows n points k e = absurd k
 curve-long Rows rows n points k e = absurd k
-curve-long (Columns s) rows n points k e = rw (k.1, e)
+curve-long (Columns s) rows n points k e = rw (k.1.1, e)
 
 columns-sized : {g : Grid} {rows : StandingFit} {us : List Float} {j : Job} → OverRows g rows → ColumnsJob g rows us j → length us ≡ g.shape.rows → sizes_of j ≡ columns_sizes g.shape j.lines.lines
 columns-sized {g} {rows} {us} {j} o c n =

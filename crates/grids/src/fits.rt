@@ -10,7 +10,7 @@ ghost use Rattle.fitting.specs.Jobs.{HasRegions, HasKnots};
 
 use crate::GridFit;
 use crate::aims::{column_aim, row_aim};
-use crate::output::hand_both;
+use crate::output::{Placed, hand_both};
 use bspline::Refusal;
 use checks::SurfaceCall;
 use checks::given::Grid;
@@ -81,7 +81,7 @@ fn columns_job<'a, 'b>(
     grid: Grid<'a>,
     rows: StandingFit<'a, 'a, 'a, 'a, 'a, 'b>,
     u_params: &'a [f64],
-) -> Job<'a, 'a, 'a, 'b>
+) -> Job<'a, 'a, 'a, 'a>
     requires over { OverRows grid rows }
     requires params { (length u_params.now ≡ grid.shape.rows) × (grid.shape.u < grid.shape.rows) }
     ensures { ColumnsJob grid.entry rows.entry u_params.now result }
@@ -98,7 +98,7 @@ fn columns_job<'a, 'b>(
     };
     let surface = Surface {
         points: grid.points,
-        across: &below.fit.table,
+        across: below.fit.table.table(),
     };
     Job {
         degree: shape.u,
@@ -136,7 +136,7 @@ fn fit_columns(
         at: &at,
         standing,
     };
-    Ok(hand_both(rows, made, out))
+    Ok(hand_both(Placed::new(rows), Placed::new(made), out))
 }
 
 // The rows' fit, and the columns' over it.

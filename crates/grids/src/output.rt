@@ -5,13 +5,34 @@ ghost use Rattle.places.specs.Places.{laid};
 ghost use Rattle.geometry.specs.Doubles.{at};
 ghost use Rattle.geometry.specs.Points.{point_at, points_of};
 ghost use Rattle.tables.specs.Directions.{transposed};
-ghost use Rattle.making.specs.HandedOut.{HasKnotsOut};
-ghost use Rattle.grids.specs.GridRuns.{HasBoth, HandsBoth, HandsDirection};
+ghost use Rattle.grids.specs.GridRuns.{placed, HasDirection, HandsDirection, HasBoth, HandsBoth};
 
 use crate::GridFit;
 use checks::slices::GridOutput;
 use fitting::Fit;
-use making::StandingFit;
+use fitting::room::Regions;
+use making::{Standing, StandingFit};
+
+// A fit of a direction in its regions, as it is handed out. How it was made is not asked.
+#[derive(Clone, Copy)]
+pub struct Placed<'a, 'b> {
+    pub degree: usize,
+    pub at: &'a Regions<'b>,
+    pub standing: Standing,
+}
+
+impl<'a, 'b> Placed<'a, 'b> {
+    // A fit that stands.
+    pub fn new(x: StandingFit<'_, '_, '_, '_, 'a, 'b>) -> Placed<'a, 'b>
+        ensures { result ≡ placed x.entry }
+    {
+        Placed {
+            degree: x.job.degree,
+            at: x.at,
+            standing: x.standing,
+        }
+    }
+}
 
 // Pole k of each of the columns, whose `count` poles each stand column after column.
 #[tactic(auto, using(crate::proofs::SurfaceLaws::points))]
@@ -39,22 +60,22 @@ pub fn surface_poles(from: &[f64], columns: usize, count: usize, poles: &mut [f6
 }
 
 // The knots of a direction's fit, and its mark and counts. (A ladder hands out its poles with them; a grid's are handed out transposed.)
-fn hand_direction(x: StandingFit, flat: &mut [f64], knots: &mut [f64], mults: &mut [u32]) -> Fit
-    requires { HasKnotsOut x.at.now.knots.count flat.old knots.old mults.old }
+fn hand_direction(x: Placed, flat: &mut [f64], knots: &mut [f64], mults: &mut [u32]) -> Fit
+    requires { HasDirection x flat.old knots.old mults.old }
     ensures { HandsDirection x.entry flat.old flat.new knots.old knots.new mults.old mults.new result }
 {
     let at = x.at;
     let l = at.knots.count;
     Fit {
         mark: x.standing.mark,
-        poles: l - x.job.degree - 1,
+        poles: l - x.degree - 1,
         knots: making::output::hand_knots(&at.knots.places[..l], flat, knots, mults),
         unreadable: x.standing.unreadable,
     }
 }
 
 // The fits of the rows and of the columns over it.
-pub fn hand_both(rows: StandingFit, columns: StandingFit, out: &mut GridOutput) -> GridFit
+pub fn hand_both(rows: Placed, columns: Placed, out: &mut GridOutput) -> GridFit
     requires { HasBoth rows columns out.old }
     ensures { HandsBoth rows.entry columns.entry out.old out.new result }
 {

@@ -174,6 +174,38 @@ module _ (flat knots₀ knots : List Float) (mults₀ mults : List ℕ) (j : ℕ
     pub taken_all : length flat ≤ j → Closed flat knots₀ knots mults₀ mults j k
     taken_all h = ⊎_elim (λ (z, c). rw z c) (λ (q, o). let n : k - 1 + 1 ≡ k = omega arith in rw n at (ends_last (k - 1) o h)) t
 
+-- the same, with the length of the last run beside the list, and its knot
+abbrev pub Going : List Float → List Float → List Float → List ℕ → List ℕ → ℕ → ℕ → Float → ℕ → Type 0
+Going flat knots₀ knots mults₀ mults j k last run =
+    (k ≡ 0 → Taken flat knots₀ knots mults₀ mults j k) × (0 < k → Taken flat knots₀ knots mults₀ (set mults (k - 1) run) j k × (at knots (k - 1) ≡ last))
+
+module _ (flat knots₀ knots : List Float) (mults₀ mults : List ℕ) (j k : ℕ) where
+  -- the length is written
+  pub written : (last : Float) (run : ℕ) → Going flat knots₀ knots mults₀ mults j k last run → (mults' : List ℕ) → (k ≡ 0 → mults' ≡ mults) → (0 < k → mults' ≡ set mults (k - 1) run)
+      → Taken flat knots₀ knots mults₀ mults' j k
+  written last run g mults' none some =
+      ⊎_elim (λ (h : k ≤ 0). let z : k ≡ 0 = omega arith in rw (none z) (g.0 z)) (λ (h : 0 < k). rw (some h) (g.1 h).0) (le-or-lt k 0)
+
+  -- the run goes on
+  pub going_on : (last : Float) (run : ℕ) → Going flat knots₀ knots mults₀ mults j k last run → 0 < k → k ≤ length knots → k ≤ length mults → j < length flat → eq last (at flat j) ≡ true
+      → Going flat knots₀ knots mults₀ mults (j + 1) k last (run + 1)
+  going_on last run g p h m l e = (
+    λ z. absurd (omega arith),
+    λ q.
+        let value : get_or (set mults (k - 1) run) (k - 1) 0 ≡ run = get_or-set_same mults (k - 1) run 0 (omega arith) in
+        let same = (g.1 p).1 in
+        let on = taken_on flat knots₀ knots mults₀ (set mults (k - 1) run) j k (g.1 p).0 p h (omega (arith, length-set mults (k - 1) run)) l (ap (λ (x : Float). eq x (at flat j)) same ∙ e) in
+        (rw (value, set-set) at on, same),
+  )
+
+  -- or the next one begins
+  pub going_next : Taken flat knots₀ knots mults₀ mults j k → k < length knots → j < length flat → (0 < k → eq (at knots (k - 1)) (at flat j) ≡ false)
+      → Going flat knots₀ (set knots k (at flat j)) mults₀ mults (j + 1) (k + 1) (at flat j) 1
+  going_next t h l e = (
+    λ z. absurd (omega arith),
+    λ q. let z : k + 1 - 1 ≡ k = omega arith in rw z (rw z at (taken_next flat knots₀ knots mults₀ mults j k t (omega arith) l e), get_or-set_same knots k (at flat j) nan h),
+  )
+
 -- no value is taken up
 pub taken_none : (flat knots : List Float) (mults : List ℕ) → Taken flat knots knots mults mults 0 0
 unfolding run_start

@@ -10,7 +10,7 @@ pub fn hand_knots(from: &[f64], flat: &mut [f64], knots: &mut [f64], mults: &mut
     requires { HasKnotsOut (length from.now) flat.old knots.old mults.old }
     ensures { HandedKnots from.now flat.old flat.new knots.old knots.new mults.old mults.new result }
 {
-    flat[..from.len()].copy_from_slice(from);
+    places::copy(from, flat);
     knots::runs::compress_knots(from, knots, mults)
 }
 
@@ -20,6 +20,6 @@ pub fn hand_out(poles: &[f64], flat: &[f64], out: &mut Output) -> usize
     requires { HasKnotsOut (length flat.now) out.old.flat.now out.old.knots.now out.old.mults.now × (length poles.now ≤ length out.old.poles.now) }
     ensures { HandedOut poles.now flat.now out.old out.new result }
 {
-    out.poles[0..poles.len()].copy_from_slice(poles);
+    places::copy(poles, out.poles);
     hand_knots(flat, out.flat, out.knots, out.mults)
 }

@@ -51,8 +51,8 @@ impl<'a> SavedFit<'a> {
         ensures { Saved self.old self.new places at.now }
     {
         let l = at.knots.count;
-        self.flat[0..l].copy_from_slice(&at.knots.places[..l]);
-        self.poles[0..places].copy_from_slice(&at.fit.poles[..places]);
+        places::copy(&at.knots.places[..l], self.flat);
+        places::copy(&at.fit.poles[..places], self.poles);
         self.knots = l;
         self.places = places;
     }
@@ -67,7 +67,7 @@ impl<'a> SavedFit<'a> {
         let l = self.knots;
         let places = self.places;
         at.knots.count = l;
-        at.knots.places[0..l].copy_from_slice(&self.flat[..l]);
-        at.fit.poles[0..places].copy_from_slice(&self.poles[..places]);
+        places::copy(&self.flat[..l], at.knots.places);
+        places::copy(&self.poles[..places], at.fit.poles);
     }
 }

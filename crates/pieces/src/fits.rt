@@ -34,8 +34,8 @@ pub extern "C" fn pieces_fill_table(
 pub extern "C" fn pieces_least_squares(
     degree: usize,
     m: usize,
-    firsts: &mut [usize],
-    values: &mut [f64],
+    firsts: &[usize],
+    values: &[f64],
     points: &[f64],
     lines: usize,
     pitch: usize,
@@ -43,11 +43,10 @@ pub extern "C" fn pieces_least_squares(
     band: &mut [f64],
     poles: &mut [f64],
 ) -> bool
-    requires table { TableBy degree m firsts.old values.old }
-    requires lines { LinesBy (length firsts.old) m lines pitch stride (length poles.old) points.now }
+    requires table { TableBy degree m firsts.now values.now }
+    requires lines { LinesBy (length firsts.now) m lines pitch stride (length poles.old) points.now }
     requires matrix { length band.old ≡ m * (degree + 1) }
-    ensures answer { least_squares (table_by degree firsts.old values.old) m lines (lines_of points.now pitch stride) ≡ cond result (some poles.new) none }
-    ensures kept { (firsts.new ≡ firsts.old) × (values.new ≡ values.old) }
+    ensures { least_squares (table_by degree firsts.now values.now) m lines (lines_of points.now pitch stride) ≡ cond result (some poles.new) none }
 {
     let given = Lines {
         points,
@@ -68,8 +67,8 @@ pub extern "C" fn pieces_least_squares(
 #[unsafe(no_mangle)]
 pub extern "C" fn pieces_interpolation(
     degree: usize,
-    firsts: &mut [usize],
-    values: &mut [f64],
+    firsts: &[usize],
+    values: &[f64],
     points: &[f64],
     lines: usize,
     pitch: usize,
@@ -77,11 +76,10 @@ pub extern "C" fn pieces_interpolation(
     band: &mut [f64],
     poles: &mut [f64],
 )
-    requires table { TableBy degree (length firsts.old) firsts.old values.old }
-    requires lines { LinesBy (length firsts.old) (length firsts.old) lines pitch stride (length poles.old) points.now }
-    requires matrix { length band.old ≡ length firsts.old * (2 * (degree - 1) + 1) }
-    ensures answer { poles.new ≡ interpolation (table_by degree firsts.old values.old) lines (lines_of points.now pitch stride) }
-    ensures kept { (firsts.new ≡ firsts.old) × (values.new ≡ values.old) }
+    requires table { TableBy degree (length firsts.now) firsts.now values.now }
+    requires lines { LinesBy (length firsts.now) (length firsts.now) lines pitch stride (length poles.old) points.now }
+    requires matrix { length band.old ≡ length firsts.now * (2 * (degree - 1) + 1) }
+    ensures { poles.new ≡ interpolation (table_by degree firsts.now values.now) lines (lines_of points.now pitch stride) }
 {
     let count = firsts.len();
     let given = Lines {
@@ -105,20 +103,19 @@ pub extern "C" fn pieces_interpolation(
 pub extern "C" fn pieces_ladder_deviations(
     degree: usize,
     m: usize,
-    firsts: &mut [usize],
-    values: &mut [f64],
+    firsts: &[usize],
+    values: &[f64],
     poles: &[f64],
     points: &[f64],
     squares: &mut [f64],
     most: &mut [f64],
 ) -> usize
-    requires table { TableBy degree m firsts.old values.old }
-    requires room { (3 * m ≤ length poles.now) × (length squares.old ≡ length firsts.old) × (3 * length firsts.old ≤ length points.now) × (1 ≤ length most.old) }
-    ensures value { result ≡ (measured (ladder_distances one (table_by degree firsts.old values.old) poles.now points.now)).unreadable }
-    ensures most_after { most.new ≡ set most.old 0 (measured (ladder_distances one (table_by degree firsts.old values.old) poles.now points.now)).largest }
-    ensures leaves_squares { LeavesSquares point_deviations (ladder_distances one (table_by degree firsts.old values.old) poles.now points.now) squares.new
-        (measured (ladder_distances one (table_by degree firsts.old values.old) poles.now points.now)) }
-    ensures kept { (firsts.new ≡ firsts.old) × (values.new ≡ values.old) }
+    requires table { TableBy degree m firsts.now values.now }
+    requires room { (3 * m ≤ length poles.now) × (length squares.old ≡ length firsts.now) × (3 * length firsts.now ≤ length points.now) × (1 ≤ length most.old) }
+    ensures value { result ≡ (measured (ladder_distances one (table_by degree firsts.now values.now) poles.now points.now)).unreadable }
+    ensures most_after { most.new ≡ set most.old 0 (measured (ladder_distances one (table_by degree firsts.now values.now) poles.now points.now)).largest }
+    ensures leaves_squares { LeavesSquares point_deviations (ladder_distances one (table_by degree firsts.now values.now) poles.now points.now) squares.new
+        (measured (ladder_distances one (table_by degree firsts.now values.now) poles.now points.now)) }
 {
     let table = Table {
         degree,
@@ -135,21 +132,20 @@ pub extern "C" fn pieces_ladder_deviations(
 pub extern "C" fn pieces_row_deviations(
     degree: usize,
     m: usize,
-    firsts: &mut [usize],
-    values: &mut [f64],
+    firsts: &[usize],
+    values: &[f64],
     rows: usize,
     poles: &[f64],
     points: &[f64],
     squares: &mut [f64],
     most: &mut [f64],
 ) -> usize
-    requires table { TableBy degree m firsts.old values.old }
-    requires room { (3 * (rows * m) ≤ length poles.now) × (length squares.old ≡ length firsts.old) × (3 * (rows * length firsts.old) ≤ length points.now) × (1 ≤ length most.old) }
-    ensures value { result ≡ (measured (row_distances one rows (table_by degree firsts.old values.old) m poles.now points.now)).unreadable }
-    ensures most_after { most.new ≡ set most.old 0 (measured (row_distances one rows (table_by degree firsts.old values.old) m poles.now points.now)).largest }
-    ensures leaves_squares { LeavesSquares (largest_over_rows rows (length firsts.old)) (row_distances one rows (table_by degree firsts.old values.old) m poles.now points.now) squares.new
-        (measured (row_distances one rows (table_by degree firsts.old values.old) m poles.now points.now)) }
-    ensures kept { (firsts.new ≡ firsts.old) × (values.new ≡ values.old) }
+    requires table { TableBy degree m firsts.now values.now }
+    requires room { (3 * (rows * m) ≤ length poles.now) × (length squares.old ≡ length firsts.now) × (3 * (rows * length firsts.now) ≤ length points.now) × (1 ≤ length most.old) }
+    ensures value { result ≡ (measured (row_distances one rows (table_by degree firsts.now values.now) m poles.now points.now)).unreadable }
+    ensures most_after { most.new ≡ set most.old 0 (measured (row_distances one rows (table_by degree firsts.now values.now) m poles.now points.now)).largest }
+    ensures leaves_squares { LeavesSquares (largest_over_rows rows (length firsts.now)) (row_distances one rows (table_by degree firsts.now values.now) m poles.now points.now) squares.new
+        (measured (row_distances one rows (table_by degree firsts.now values.now) m poles.now points.now)) }
 {
     let table = Table {
         degree,
@@ -167,27 +163,26 @@ pub extern "C" fn pieces_row_deviations(
 pub extern "C" fn pieces_grid_deviations(
     pu: usize,
     mu: usize,
-    fu: &mut [usize],
-    wu: &mut [f64],
+    fu: &[usize],
+    wu: &[f64],
     pv: usize,
     mv: usize,
-    fv: &mut [usize],
-    wv: &mut [f64],
+    fv: &[usize],
+    wv: &[f64],
     poles: &[f64],
     points: &[f64],
     curve: &mut [f64],
     squares: &mut [f64],
     most: &mut [f64],
 ) -> usize
-    requires tables { TableBy pu mu fu.old wu.old × TableBy pv mv fv.old wv.old }
-    requires given { (3 * (mv * mu) ≤ length poles.now) × (3 * (length fu.old * length fv.old) ≤ length points.now) }
-    requires room { (length curve.old ≡ 3 * mv) × (length squares.old ≡ length fu.old) × (1 ≤ length most.old) }
-    ensures value { result ≡ (measured (grid_distances one (table_by pu fu.old wu.old) (table_by pv fv.old wv.old) mv (transposed mv mu poles.now) points.now)).unreadable }
-    ensures most_after { most.new ≡ set most.old 0 (measured (grid_distances one (table_by pu fu.old wu.old) (table_by pv fv.old wv.old) mv (transposed mv mu poles.now) points.now)).largest }
-    ensures leaves_squares { LeavesSquares (largest_over_columns (length fu.old) (length fv.old))
-        (grid_distances one (table_by pu fu.old wu.old) (table_by pv fv.old wv.old) mv (transposed mv mu poles.now) points.now) squares.new
-        (measured (grid_distances one (table_by pu fu.old wu.old) (table_by pv fv.old wv.old) mv (transposed mv mu poles.now) points.now)) }
-    ensures kept { (fu.new ≡ fu.old) × (wu.new ≡ wu.old) × (fv.new ≡ fv.old) × (wv.new ≡ wv.old) }
+    requires tables { TableBy pu mu fu.now wu.now × TableBy pv mv fv.now wv.now }
+    requires given { (3 * (mv * mu) ≤ length poles.now) × (3 * (length fu.now * length fv.now) ≤ length points.now) }
+    requires room { (length curve.old ≡ 3 * mv) × (length squares.old ≡ length fu.now) × (1 ≤ length most.old) }
+    ensures value { result ≡ (measured (grid_distances one (table_by pu fu.now wu.now) (table_by pv fv.now wv.now) mv (transposed mv mu poles.now) points.now)).unreadable }
+    ensures most_after { most.new ≡ set most.old 0 (measured (grid_distances one (table_by pu fu.now wu.now) (table_by pv fv.now wv.now) mv (transposed mv mu poles.now) points.now)).largest }
+    ensures leaves_squares { LeavesSquares (largest_over_columns (length fu.now) (length fv.now))
+        (grid_distances one (table_by pu fu.now wu.now) (table_by pv fv.now wv.now) mv (transposed mv mu poles.now) points.now) squares.new
+        (measured (grid_distances one (table_by pu fu.now wu.now) (table_by pv fv.now wv.now) mv (transposed mv mu poles.now) points.now)) }
 {
     let u = Table {
         degree: pu,

@@ -1,16 +1,18 @@
 -- The laws of `laid`, `list_of`, `joined`, `some_below` and `all_below`. Assumes nothing.
 use mathlib.Core.Path.{◌≡◌, refl, sym, ◌∙◌, ap, subst}
-use mathlib.Core.Bool.{Bool, true, false, ◌||◌, ◌&&◌}
+use mathlib.Core.Bool.{Bool, true, false, cond, ◌||◌, ◌&&◌}
 use mathlib.Core.List.{List, [], ◌∷◌, ◌++◌, append_assoc, append-nil}
 use mathlib.Core.Logic.{⊎_elim, ◌⊎◌, inl, inr}
 use Prim.Native.Nat.{ℕ, zero, suc, ◌+◌, ◌-◌, ◌*◌, ◌<◌, ◌≤◌}
-use native.Mathlib.Nat.{ne_of_lt, ne_of_gt, eq-or-lt_of_le, le_of_suc-le-suc, not-suc-le-zero, zero-add, zero-mul, suc-mul, mul-le-mul_right}
+use native.Mathlib.Nat.{add-zero, add-suc, add_assoc, ne_of_lt, ne_of_gt, eq-or-lt_of_le, le_of_suc-le-suc, not-suc-le-zero, zero-add, zero-mul, suc-mul, mul-le-mul_right}
 use native.Mathlib.Numerals.{add-one}
-use lib.Dec.{leb}
-use borrow.Author.Tests.{leb-true, leb-false}
+use lib.Dec.{leb, eqb}
+use borrow.Author.Tests.{leb-true, leb-false, eq-eqb, ne_eqb}
 use native.Mathlib.Omega.{arith}
 use lib.ListN.{length, get_or, set, take, drop, replicate, length-set, length-append, length-drop, length-replicate, get_or-replicate, take-append-drop, get_or-append}
-use lib.Seq.{get_or-set_same, get_or-set_other, set-append_left, length-take-le, get_or_at, get_or-take, get_or-drop, ext_get_or, drop-cons, set_at, drop_at, take_at, drop-drop, drop-length, take_all, append_snoc}
+use lib.Seq.{get_or-set_same, get_or-set_other, set_comm, set-set, set-append_left, length-take-le, get_or_at, get_or-take, get_or-drop, ext_get_or, drop-cons, set_at, drop_at, take_at, drop-drop, drop-length, drop-set-lt, take_all, append_snoc}
+use Rattle.places.specs.Loops.{each}
+use Rattle.places.proofs.LoopLaws.{each_done, each_last}
 use Rattle.places.specs.Regions.{part, splice}
 use Rattle.places.proofs.RegionLaws.{part-front, length_part, set-append-add, get_d_part}
 use Rattle.places.specs.Places.{laid, list_of, joined, some_below, all_below}
@@ -32,9 +34,19 @@ module _ {A : Type 0} where
   pub laid0-more : (n : ℕ) (f : ℕ → A) (xs : List A) → laid 0 (n + 1) f xs ≡ set (laid 0 n f xs) n (f n)
   laid0-more n f xs = laid_more 0 n f xs ∙ ap (λ (i : ℕ). set (laid 0 n f xs) i (f n)) (zero-add n)
 
+  -- one store more, in a loop
+  pub laid_next : (a m : ℕ) (f : ℕ → A) (xs out : List A) (v : A) → out ≡ laid a m f xs → v ≡ f m → set out (a + m) v ≡ laid a (m + 1) f xs
+  laid_next a m f xs out v e h = rw (e, h, laid_more)
+
   -- one store more, in a loop that lays from the front
   pub laid0-next : (m : ℕ) (f : ℕ → A) (xs out : List A) (v : A) → out ≡ laid 0 m f xs → v ≡ f m → set out m v ≡ laid 0 (m + 1) f xs
   laid0-next m f xs out v e h = rw (e, h, laid0-more)
+
+  -- places outside are kept
+  pub laid-below : (a n : ℕ) (f : ℕ → A) (xs : List A) (j : ℕ) (d : A) → j < a → get_or (laid a n f xs) j d ≡ get_or xs j d
+  unfolding laid
+  laid-below a zero f xs j d h = refl
+  laid-below a (suc n) f xs j d h = get_or-set_other (laid a n f xs) (a + n) j (f n) d (ne_of_lt (omega arith)) ∙ laid-below a n f xs j d h
 
   pub laid-above : (a n : ℕ) (f : ℕ → A) (xs : List A) (j : ℕ) (d : A) → a + n ≤ j → get_or (laid a n f xs) j d ≡ get_or xs j d
   unfolding laid
@@ -53,6 +65,63 @@ module _ {A : Type 0} where
 
   pub laid0-at : (n : ℕ) (f : ℕ → A) (xs : List A) (k : ℕ) (d : A) → k < n → n ≤ length xs → get_or (laid 0 n f xs) k d ≡ f k
   laid0-at n f xs k d h l = ap (λ (i : ℕ). get_or (laid 0 n f xs) i d) (sym (zero-add k)) ∙ laid-at 0 n f xs k d h (omega arith)
+
+  -- only the values below n count
+  pub laid_same : (a n : ℕ) (f g : ℕ → A) (xs : List A) → ((k : ℕ) → k < n → f k ≡ g k) → laid a n f xs ≡ laid a n g xs
+  unfolding laid
+  laid_same a zero f g xs e = refl
+  laid_same a (suc n) f g xs e = rw (e n (omega arith), laid_same a n f g xs (λ k h. e k (omega arith)))
+
+  -- two neighbouring regions are one
+  pub laid_join : (a m n : ℕ) (f g h : ℕ → A) (xs : List A) → ((k : ℕ) → k < m → f k ≡ h k) → ((k : ℕ) → k < n → g k ≡ h (m + k)) → laid (a + m) n g (laid a m f xs) ≡ laid a (m + n) h xs
+  unfolding laid
+  laid_join a m zero f g h xs e e' = rw add-zero (laid_same a m f h xs e)
+  laid_join a m (suc n) f g h xs e e' =
+      rw (add-suc, laid_join a m n f g h xs e (λ k l. e' k (omega arith)), e' n (omega arith), add_assoc)
+
+  -- a store past the places that are laid
+  laid-set : (a n : ℕ) (f : ℕ → A) (xs : List A) (i : ℕ) (v : A) → a + n ≤ i → laid a n f (set xs i v) ≡ set (laid a n f xs) i v
+  unfolding laid
+  laid-set a zero f xs i v h = refl
+  laid-set a (suc n) f xs i v h =
+      ap (λ (l : List A). set l (a + n) (f n)) (laid-set a n f xs i v (omega arith)) ∙ set_comm (laid a n f xs) i (a + n) v (f n) (ne_of_gt (omega arith))
+
+  -- two regions, one before the other, are laid in either order
+  pub laid-order : (a m b n : ℕ) (f g : ℕ → A) (xs : List A) → a + m ≤ b → laid a m f (laid b n g xs) ≡ laid b n g (laid a m f xs)
+  unfolding laid
+  laid-order a m b zero f g xs h = refl
+  laid-order a m b (suc n) f g xs h = laid-set a m f (laid b n g xs) (b + n) (g n) (omega arith) ∙ ap (λ (l : List A). set l (b + n) (g n)) (laid-order a m b n f g xs h)
+
+  -- a store into a place that is laid later
+  pub laid_again : (a n : ℕ) (f : ℕ → A) (xs : List A) (i : ℕ) (v : A) → i < n → laid a n f (set xs (a + i) v) ≡ laid a n f xs
+  unfolding laid
+  laid_again a zero f xs i v h = absurd (not-suc-le-zero h)
+  laid_again a (suc n) f xs i v h =
+      ⊎_elim
+      (λ e. rw e (ap (λ (l : List A). set l (a + n) (f n)) (laid-set a n f xs (a + n) v (omega arith)) ∙ set-set (laid a n f xs) (a + n) v (f n)))
+      (λ lt. ap (λ (l : List A). set l (a + n) (f n)) (laid_again a n f xs i v lt))
+      (eq-or-lt_of_le (le_of_suc-le-suc h))
+
+  -- a store into a place that is laid
+  pub laid_put : (n : ℕ) (f : ℕ → A) (xs : List A) (i : ℕ) (v : A) → i < n → set (laid 0 n f xs) i v ≡ laid 0 n (λ k. cond (eqb k i) v (f k)) xs
+  unfolding laid
+  laid_put zero f xs i v h = absurd (not-suc-le-zero h)
+  laid_put (suc n) f xs i v h =
+      ⊎_elim
+      (λ (e : i ≡ n). rw (eq-eqb n i (sym e), e, zero-add)
+      (set-set (laid 0 n f xs) n (f n) v
+      ∙ ap (λ (l : List A). set l n v) (laid_same 0 n f (λ k. cond (eqb k n) v (f k)) xs (λ k l. rw (ne_eqb k n (ne_of_lt l))))))
+      (λ (lt : i < n). rw (zero-add, ne_eqb n i (ne_of_gt lt))
+      (set_comm (laid 0 n f xs) n i (f n) v (ne_of_gt lt) ∙ ap (λ (l : List A). set l n (f n)) (laid_put n f xs i v lt)))
+      (eq-or-lt_of_le (le_of_suc-le-suc h))
+
+  -- what is laid last stands
+  pub laid-laid : (a n : ℕ) (f g : ℕ → A) (xs : List A) → laid a n f (laid a n g xs) ≡ laid a n f xs
+  unfolding laid
+  laid-laid a zero f g xs = refl
+  laid-laid a (suc n) f g xs =
+      ap (λ (l : List A). set l (a + n) (f n)) (laid-set a n f (laid a n g xs) (a + n) (g n) (omega arith) ∙ ap (λ (l : List A). set l (a + n) (g n)) (laid-laid a n f g xs))
+      ∙ set-set (laid a n f xs) (a + n) (g n) (f n)
 
 -- ---- regions of a buffer: a part that is lent and comes back, and a part that is read
 
@@ -88,6 +157,33 @@ module _ {A : Type 0} where
       ext_get_or d _ _ (long ∙ sym (length-list_of k f))
       (λ i l. let l' : i < k = omega arith in get_or-take k _ i d l' ∙ get_or-drop a _ i d ∙ laid-at a k f xs i d l' h ∙ sym (list_of-at k f i d l'))
 
+  -- A region that does not meet the places that are laid reads as before.
+  pub part-before-laid : (a n : ℕ) (f : ℕ → A) (xs : List A) (b k : ℕ) (d : A) → b + k ≤ a → b + k ≤ length xs → take k (drop b (laid a n f xs)) ≡ take k (drop b xs)
+  part-before-laid a n f xs b k d h l =
+      let long : length (take k (drop b (laid a n f xs))) ≡ k = length-take-le k _ (omega (arith, length-drop b (laid a n f xs), length-laid a n f xs)) in
+      let long' : length (take k (drop b xs)) ≡ k = length-take-le k _ (omega (arith, length-drop b xs)) in
+      ext_get_or d _ _ (long ∙ sym long')
+      (λ i q. let q' : i < k = omega arith in
+      get_or-take k _ i d q' ∙ get_or-drop b _ i d ∙ laid-below a n f xs (b + i) d (omega arith) ∙ sym (get_or-take k _ i d q' ∙ get_or-drop b _ i d))
+
+  -- what is laid over a narrower region is laid alone
+  pub laid_wider : (a m n : ℕ) (f g : ℕ → A) (xs : List A) → m ≤ n → laid a n f (laid a m g xs) ≡ laid a n f xs
+  unfolding laid
+  laid_wider a zero n f g xs h = refl
+  laid_wider a (suc m) n f g xs h = laid_again a n f (laid a m g xs) m (g m) (omega arith) ∙ laid_wider a m n f g xs (omega arith)
+
+  -- what is laid past a list's first part
+  pub laid-append : (p q : List A) (a n : ℕ) (f : ℕ → A) → laid (length p + a) n f (p ++ q) ≡ p ++ laid a n f q
+  unfolding laid
+  laid-append p q a zero f = refl
+  laid-append p q a (suc n) f = rw (laid-append p q a n f, add_assoc) (set-append-add p (laid a n f q) (a + n) (f n))
+
+  -- every place the same
+  pub laid_all : (n : ℕ) (v : A) (xs : List A) → length xs ≡ n → laid 0 n (λ (k : ℕ). v) xs ≡ replicate n v
+  laid_all n v xs e =
+      ext_get_or v _ _ (length-laid 0 n _ xs ∙ e ∙ sym (length-replicate n v))
+      (λ i l. let l' : i < n = omega (arith, length-laid 0 n (λ (k : ℕ). v) xs) in laid0-at n (λ (k : ℕ). v) xs i v l' (omega arith) ∙ sym (get_or-replicate n i v v l'))
+
 -- ---- bridges between the ways to say what stands where
 
 module _ {A : Type 0} where
@@ -98,6 +194,28 @@ module _ {A : Type 0} where
   laid-front (suc n) f xs h =
       rw (zero-add, laid-front n f xs (omega arith), drop-cons xs n (f n) (omega arith))
       (set_at (list_of n f) (get_or xs n (f n)) (drop (suc n) xs) (f n) n (length-list_of n f) ∙ sym (append_snoc (list_of n f) (f n) (drop (suc n) xs)))
+
+  -- a region all of which is laid
+  pub laid_region : (a n : ℕ) (f : ℕ → A) (xs : List A) → a + n ≤ length xs → laid a n f xs ≡ splice a (a + n) (list_of n f) xs
+  laid_region a n f xs h =
+      let w : a + n - a ≡ n = omega arith in
+      let l : length (take n (drop a xs)) ≡ n = length-take-le n (drop a xs) (omega (arith, length-drop a xs)) in
+      rw w
+      (sym (laid-part a n n f xs (omega arith) h)
+      ∙ ap (λ (ys : List A). take a xs ++ (ys ++ drop n (drop a xs))) (laid-front n f (take n (drop a xs)) (omega arith) ∙ ap (λ (ys : List A). list_of n f ++ ys) (ap (λ (m : ℕ). drop m (take n (drop a xs))) (sym l) ∙ drop-length (take n (drop a xs))) ∙ append-nil (list_of n f)))
+
+  -- the places behind those that are laid
+  pub drop-laid : (m n : ℕ) (f : ℕ → A) (xs : List A) → n ≤ m → drop m (laid 0 n f xs) ≡ drop m xs
+  unfolding laid
+  drop-laid m zero f xs h = refl
+  drop-laid m (suc n) f xs h = rw zero-add (drop-set-lt m (laid 0 n f xs) n (f n) (omega arith) ∙ drop-laid m n f xs (omega arith))
+
+  -- places laid from the second on, and a store into the first
+  pub laid-second : (m : ℕ) (f : ℕ → A) (xs : List A) (v : A) → m < length xs → set (laid 1 m f xs) 0 v ≡ (v ∷ list_of m f) ++ drop (m + 1) xs
+  laid-second m f [] v h = absurd (not-suc-le-zero h)
+  laid-second m f (x ∷ ys) v h =
+      rw add-one
+      (ap (λ (l : List A). set l 0 v) (laid-append (x ∷ []) ys 0 m f) ∙ ap (λ (l : List A). v ∷ l) (laid-front m f ys (omega arith)))
 
   -- all places of a list
   pub list_of_all : (n : ℕ) (xs : List A) (d : A) → length xs ≡ n → list_of n (λ k. get_or xs k d) ≡ xs
@@ -122,6 +240,26 @@ module _ {A : Type 0} where
   list_of-replicate n v =
       ext_get_or v _ _ (length-list_of n _ ∙ sym (length-replicate n v))
       (λ i l. let l' : i < n = omega (arith, length-list_of n (λ (k : ℕ). v)) in list_of-at n (λ (k : ℕ). v) i v l' ∙ sym (get_or-replicate n i v v l'))
+
+  -- a list that is filled from the front, by a run of m places
+  pub laid_run : (m : ℕ) (v : A) (xs old : List A) → length xs + m ≤ length old
+      → laid (length xs) m (λ (k : ℕ). v) (xs ++ drop (length xs) old) ≡ (xs ++ replicate m v) ++ drop (length xs + m) old
+  laid_run m v xs old h =
+      let q = drop (length xs) old in
+      let long : m ≤ length q = omega (arith, length-drop (length xs) old) in
+      ap (λ (a : ℕ). laid a m (λ (k : ℕ). v) (xs ++ q)) (sym (add-zero (length xs)))
+      ∙ laid-append xs q 0 m (λ (k : ℕ). v)
+      ∙ ap (λ (l : List A). xs ++ l) (laid-front m (λ (k : ℕ). v) q long ∙ rw (list_of-replicate m v, drop-drop m (length xs) old))
+      ∙ sym (append_assoc xs (replicate m v) (drop (length xs + m) old))
+
+  -- a loop of stores lays
+  pub laid_each : (a n : ℕ) (f : ℕ → A) (xs : List A) → each 0 n (λ k l. set l (a + k) (f k)) xs ≡ laid a n f xs
+  unfolding laid
+  laid_each a zero f xs = each_done 0 0 (λ k l. set l (a + k) (f k)) xs (omega arith)
+  laid_each a (suc n) f xs =
+      ap (λ (m : ℕ). each 0 m (λ k l. set l (a + k) (f k)) xs) (sym (add-one n))
+      ∙ each_last 0 n (λ k l. set l (a + k) (f k)) xs (omega arith)
+      ∙ ap (λ (l : List A). set l (a + n) (f n)) (laid_each a n f xs)
 
   -- one place more
   pub list_of-more : (k : ℕ) (f : ℕ → A) → list_of (k + 1) f ≡ list_of k f ++ (f k ∷ [])
@@ -248,3 +386,7 @@ unfolding all_below
 all_here zero p k h e = absurd (not-suc-le-zero h)
 all_here (suc n) p k h e =
     ⊎_elim (λ q. rw (← q, e) (and_false (all_below k p))) (λ lt. rw (all_here n p k lt e)) (eq-or-lt_of_le (le_of_suc-le-suc h))
+
+pub all-next : (n : ℕ) (p : ℕ → Bool) → all_below n p ≡ true → p n ≡ true → all_below (n + 1) p ≡ true
+unfolding all_below
+all-next n p e h = rw (add-one n, e, h)

@@ -9,6 +9,7 @@ use checks::given::Ladder;
 use checks::slices::Output;
 use fitting::Fit;
 use knots::Metric;
+use replay_list::answers::Handed;
 use replay_list::{Case, PLACES};
 
 // The most points of a case, and the degree above which none asks for more.
@@ -71,13 +72,13 @@ fn lengths(n: usize, degree: usize, shorter: usize) -> Room
 
 // A case's answer beside the list's.
 #[tactic(auto, unfolding(crate::specs::Runs::compared))]
-fn compare(words: &[u64], case: Case, answer: Result<Fit, Refusal>, output: &Output) -> Option<Turn>
-    ensures { result ≡ compared answer words.now case.entry.answer case.entry.degree output.now.poles.now output.now.flat.now output.now.knots.now output.now.mults.now
+fn compare(words: &[u64], case: Case, answer: Result<Fit, Refusal>, handed: Handed) -> Option<Turn>
+    ensures { result ≡ compared answer words.now case.entry.answer case.entry.degree handed.entry.poles.now handed.entry.flat.now handed.entry.knots.now handed.entry.mults.now
         (listed_at words.now case.entry.answer case.entry.degree) }
 {
     let turn = match replay_list::answers::listed_at(words, case.answer, case.degree)? {
         Ok(fit) => Turn {
-            same: replay_list::answers::same_fit(answer, words, fit, output),
+            same: replay_list::answers::same_fit(answer, words, fit, handed),
             next: fit.next,
         },
         Err(number) => Turn {
@@ -115,7 +116,19 @@ fn run_case(words: &[u64], case: Case, buffers: &mut Buffers) -> Option<Turn>
         metric,
     };
     let answer = ladders::fit_ladder(ladder, case.call, &mut output, work, index);
-    compare(words, case, answer, &output)
+    let Output {
+        poles,
+        flat,
+        knots,
+        mults,
+    } = output;
+    let handed = Handed {
+        poles,
+        flat,
+        knots,
+        mults,
+    };
+    compare(words, case, answer, handed)
 }
 
 // Runs the case whose words start at a place.

@@ -6,7 +6,6 @@ ghost use Rattle.replay_list.specs.Listed.{listed_at, Within, Held};
 
 use crate::values::same_words;
 use bspline::Refusal;
-use checks::slices::Output;
 use fitting::Fit;
 
 // A fit as the list has it. Its values start at `values`, and after them stands the next case: the list holds the words of many.
@@ -20,6 +19,15 @@ pub struct ListedFit {
     pub unreadable: usize,
     pub values: usize,
     pub next: usize,
+}
+
+// What a call handed out, to be read: poles, flat knots, distinct knots and their multiplicities.
+#[derive(Clone, Copy)]
+pub struct Handed<'a> {
+    pub poles: &'a [f64],
+    pub flat: &'a [f64],
+    pub knots: &'a [f64],
+    pub mults: &'a [u32],
 }
 
 // The answer whose words start at a place, of a call of a degree: a fit, or the number of a refusal.
@@ -82,18 +90,18 @@ fn same_told(fit: Fit, listed: ListedFit) -> bool
 
 // Whether the values handed out are those of the list.
 #[tactic(auto, unfolding(crate::specs::Compared::same_values))]
-fn same_values(words: &[u64], listed: ListedFit, output: &Output) -> bool
+fn same_values(words: &[u64], listed: ListedFit, handed: Handed) -> bool
     requires { Within (length words.now) listed }
-    ensures { result ≡ same_values words.now listed output.now.poles.now output.now.flat.now output.now.knots.now output.now.mults.now }
+    ensures { result ≡ same_values words.now listed handed.entry.poles.now handed.entry.flat.now handed.entry.knots.now handed.entry.mults.now }
 {
     let at_knots = listed.values + (listed.poles + listed.degree + 1);
     let at_mults = at_knots + listed.knots;
     let at_poles = at_mults + listed.knots;
     let end = at_poles + 3 * listed.poles;
-    same_words(output.flat, &words[listed.values..at_knots])
-        && same_words(output.knots, &words[at_knots..at_mults])
-        && same_words(output.mults, &words[at_mults..at_poles])
-        && same_words(output.poles, &words[at_poles..end])
+    same_words(handed.flat, &words[listed.values..at_knots])
+        && same_words(handed.knots, &words[at_knots..at_mults])
+        && same_words(handed.mults, &words[at_mults..at_poles])
+        && same_words(handed.poles, &words[at_poles..end])
 }
 
 // Whether an answer is a fit of the list.
@@ -102,13 +110,13 @@ pub fn same_fit(
     answer: Result<Fit, Refusal>,
     words: &[u64],
     listed: ListedFit,
-    output: &Output,
+    handed: Handed,
 ) -> bool
     requires { Within (length words.now) listed }
-    ensures { result ≡ same_fit words.now listed output.now.poles.now output.now.flat.now output.now.knots.now output.now.mults.now answer }
+    ensures { result ≡ same_fit words.now listed handed.entry.poles.now handed.entry.flat.now handed.entry.knots.now handed.entry.mults.now answer }
 {
     match answer {
-        Ok(fit) => same_told(fit, listed) && same_values(words, listed, output),
+        Ok(fit) => same_told(fit, listed) && same_values(words, listed, handed),
         Err(_) => false,
     }
 }

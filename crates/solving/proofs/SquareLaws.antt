@@ -107,6 +107,11 @@ lines_fill n lines g w w' h e =
     ∙ ap (λ (l : List Float). joined lines g ++ l) (drop-length w)
     ∙ append-nil (joined lines g)
 
+-- the only line
+pub one_line : (lines : ℕ) (f : ℕ → List Float) (g : List Float → List Float) → lines ≡ 1 → g (joined lines f) ≡ joined lines (λ r. g (f r))
+unfolding joined
+one_line lines f g e = rw e
+
 -- ---- the whole fit
 
 told_by : (b : Bool) → is_some (then_some b (tt {0})) ≡ b

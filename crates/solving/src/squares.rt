@@ -13,8 +13,8 @@ ghost use Rattle.solving.specs.LeastSquares.{normal_matrix, add_datum, right_han
 ghost use Rattle.solving.specs.Steps.{add_row_product, add_row_value, add_to_pole, OntoBand, OntoPoles, HasPoints, HasSquares, Squared};
 
 use bands::Band;
-use cholesky::factor_symmetric_band;
 use cholesky::together::substitute_together;
+use cholesky::{factor_symmetric_band, substitute_symmetric_band};
 use geometry::Point;
 use knots::lines::{Line, Lines};
 use tables::basis_table::{Row, Table};
@@ -118,7 +118,7 @@ fn right_hands(table: &Table, lines: Lines, poles: &mut [f64])
     }
 }
 
-// The poles of all the lines together, with the factor of A'A.
+// The poles of all the lines, with the factor of A'A: one line by itself, and several together.
 fn solve_lines(table: &Table, lines: Lines, lower: &[f64], poles: &mut [f64])
     requires has_squares { HasSquares table.now lines (length poles.old) }
     requires factored { length lower.now ≡ table.now.poles * (table.now.degree + 1) }
@@ -126,6 +126,10 @@ fn solve_lines(table: &Table, lines: Lines, lower: &[f64], poles: &mut [f64])
         (right_hand (table_of table.now) table.now.poles (on_lines lines.entry r))) }
 {
     right_hands(table, lines, poles);
+    if lines.lines == 1 {
+        substitute_symmetric_band(lower, poles, table.degree, table.poles);
+        return;
+    }
     substitute_together(lower, poles, lines.lines, table.degree, table.poles);
 }
 

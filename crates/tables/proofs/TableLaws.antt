@@ -20,7 +20,7 @@ use Rattle.bspline.proofs.AgreeLaws.{spans_agree}
 use Rattle.bspline.specs.Basis.{basis_at}
 use Rattle.bspline.proofs.SpanLaws.{span_before-next, span_before-in}
 use Rattle.bspline.proofs.Recurrence.{length-basis_at}
-use Rattle.tables.specs.declared.basis_table.Table.{Table}
+use Rattle.tables.specs.declared.basis_table.TablePlaces.{TablePlaces}
 use Rattle.tables.specs.BasisTable.{basis_table, first, value, table_point}
 use Rattle.tables.specs.Layout.{FillsTable, Filled}
 
@@ -123,7 +123,7 @@ table-poles flat d params k h l =
     omega (arith, list_of-at (length params) (first_at flat d params) k 0 l)
 
 -- a table with these rows can be read, on the poles of its flat knots
-pub filled : (t t' : Table) (flat params : List Float) → FillsTable t flat params → t'.degree ≡ t.degree → t'.poles ≡ length flat - t.degree - 1
+pub filled : (t t' : TablePlaces) (flat params : List Float) → FillsTable t flat params → t'.degree ≡ t.degree → t'.poles ≡ length flat - t.degree - 1
     → t'.firsts.now ≡ (basis_table flat t.degree params).firsts → t'.values.now ≡ (basis_table flat t.degree params).values → Filled t t' flat params
 unfolding basis_table
 filled t t' flat params fills same poles firsts values =

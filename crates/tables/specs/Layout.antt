@@ -1,20 +1,35 @@
 -- How a basis table stands in its slices. Definitions only.
 use Rattle.std.specs.Prelude.{◌≡◌, ℕ, List, ◌+◌, ◌-◌, ◌*◌, ◌≤◌, ◌<◌, length, get_or, Float}
 use Rattle.tables.specs.declared.basis_table.Table.{Table}
+use Rattle.tables.specs.declared.basis_table.TablePlaces.{TablePlaces}
 use Rattle.tables.specs.BasisTable.{BasisTable, basis_table}
 
--- the table that stands there
+-- the table that is read, and the one that stands in these places
 abbrev pub table_of : Table → BasisTable
 table_of t = record { degree = t.degree; firsts = t.firsts.now; values = t.values.now }
 
--- A table of two parameters or more, whose first poles leave room for the degree + 1 poles of each row among its poles.
-pub record HasTable (t : Table) : Type 0 where
-  pub low : 1 ≤ t.degree
-  pub high : t.degree ≤ 25
-  pub some : 2 ≤ length t.firsts.now
-  pub few : length t.firsts.now ≤ 1024
-  pub long : length t.values.now ≡ length t.firsts.now * (t.degree + 1)
-  pub poles : (k : ℕ) → k < length t.firsts.now → get_or t.firsts.now k 0 + t.degree < t.poles
+abbrev pub table_in : TablePlaces → BasisTable
+table_in t = record { degree = t.degree; firsts = t.firsts.now; values = t.values.now }
+
+-- what is read is what stands there
+abbrev pub Reads : TablePlaces → Table → Type 0
+Reads p t = (t.degree ≡ p.degree) × (t.poles ≡ p.poles) × (t.firsts.now ≡ p.firsts.now) × (t.values.now ≡ p.values.now)
+
+-- Two parameters or more, whose first poles leave room for the degree + 1 poles of each row among m.
+pub record TableFits (degree m : ℕ) (firsts : List ℕ) (values : List Float) : Type 0 where
+  pub low : 1 ≤ degree
+  pub high : degree ≤ 25
+  pub some : 2 ≤ length firsts
+  pub few : length firsts ≤ 1024
+  pub long : length values ≡ length firsts * (degree + 1)
+  pub poles : (k : ℕ) → k < length firsts → get_or firsts k 0 + degree < m
+
+-- a table of which that holds among its poles, and the places where one stands
+abbrev pub HasTable : Table → Type 0
+HasTable t = TableFits t.degree t.poles t.firsts.now t.values.now
+
+abbrev pub HasTableIn : TablePlaces → Type 0
+HasTableIn t = TableFits t.degree t.poles t.firsts.now t.values.now
 
 -- row k, which has its values
 pub record HasRow (t : Table) (k : ℕ) : Type 0 where
@@ -34,7 +49,7 @@ pub record HasBeside (t : Table) (start first poles points : ℕ) : Type 0 where
   pub points_inside : 3 * (first + length t.firsts.now) ≤ points
 
 -- What the making of a table asks: at least the knots of a single piece, and a place for each parameter and each value.
-pub record FillsTable (t : Table) (flat params : List Float) : Type 0 where
+pub record FillsTable (t : TablePlaces) (flat params : List Float) : Type 0 where
   pub low : 1 ≤ t.degree
   pub high : t.degree ≤ 25
   pub some : 2 ≤ length params
@@ -44,7 +59,7 @@ pub record FillsTable (t : Table) (flat params : List Float) : Type 0 where
   pub values : length t.values.now ≡ length params * (t.degree + 1)
 
 -- And what it leaves.
-pub record Filled (t t' : Table) (flat params : List Float) : Type 0 where
-  pub table : table_of t' ≡ basis_table flat t.degree params
+pub record Filled (t t' : TablePlaces) (flat params : List Float) : Type 0 where
+  pub table : table_in t' ≡ basis_table flat t.degree params
   pub poles : t'.poles ≡ length flat - t.degree - 1
-  pub has : HasTable t'
+  pub has : HasTableIn t'

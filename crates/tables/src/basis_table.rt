@@ -18,17 +18,34 @@ pub fn fill_table(
     ensures values_after { values.new ≡ (basis_table flat.now degree params.now).values }
 {
     let width = degree + 1;
-    let mut rows = BasisRows::new(flat, degree);
+    let mut rows = BasisRows::new(flat, degree, degree);
     // by number: what a list holds after `iter_mut().zip(..)` or `chunks_mut`, or once its rest is split off, is not known
     for (k, t) in params.iter().enumerate() {
-        firsts[k] = rows.at(*t, &mut values[k * width..(k + 1) * width]);
+        rows = rows.at(*t);
+        bspline::basis::basis_values(
+            flat,
+            rows.span,
+            degree,
+            *t,
+            &mut values[k * width..(k + 1) * width],
+        );
+        firsts[k] = rows.span - degree;
     }
 }
 
 // The table of knots with so many poles: for each parameter the first pole whose basis function is not zero there, and, one row after the other, the
 // degree + 1 values from that pole on.
-#[derive(Drop)]
+#[derive(Clone, Copy)]
 pub struct Table<'a> {
+    pub degree: usize,
+    pub poles: usize,
+    pub firsts: &'a [usize],
+    pub values: &'a [f64],
+}
+
+// The places that a table is made in.
+#[derive(Drop)]
+pub struct TablePlaces<'a> {
     pub degree: usize,
     pub poles: usize,
     pub firsts: &'a mut [usize],
@@ -45,11 +62,9 @@ pub struct Row<'a> {
     pub ghost long: { length values.now ≡ degree + 1 },
 }
 
-impl Table<'_> {
-    ghost use Rattle.std.specs.Prelude.{◌≡◌, ◌+◌, ◌*◌, ◌≤◌, ◌<◌, length, get_or};
-    ghost use Rattle.places.specs.Regions.{part};
-    ghost use Rattle.tables.specs.BasisTable.{table_point};
-    ghost use Rattle.tables.specs.Layout.{table_of, HasRow, Readable, FillsTable, Filled};
+impl TablePlaces<'_> {
+    ghost use Rattle.std.specs.Prelude.{◌≡◌};
+    ghost use Rattle.tables.specs.Layout.{FillsTable, Filled, Reads};
 
     // The table of these flat knots at these parameters, in its place.
     pub fn fill(&mut self, flat: &[f64], params: &[f64])
@@ -61,6 +76,25 @@ impl Table<'_> {
         self.poles = flat.len() - degree - 1;
         fill_table(flat, degree, params, self.firsts, self.values);
     }
+
+    // The table that stands there.
+    pub fn table(&self) -> Table<'_>
+        ensures { Reads self.now result }
+    {
+        Table {
+            degree: self.degree,
+            poles: self.poles,
+            firsts: self.firsts,
+            values: self.values,
+        }
+    }
+}
+
+impl Table<'_> {
+    ghost use Rattle.std.specs.Prelude.{◌≡◌, ◌+◌, ◌*◌, ◌≤◌, ◌<◌, length, get_or};
+    ghost use Rattle.places.specs.Regions.{part};
+    ghost use Rattle.tables.specs.BasisTable.{table_point};
+    ghost use Rattle.tables.specs.Layout.{table_of, HasRow, Readable};
 
     // How many parameters it has.
     pub fn count(&self) -> usize

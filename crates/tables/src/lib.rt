@@ -3,7 +3,7 @@
 
 pub mod basis_table;
 pub mod deviations;
-mod rows;
+pub mod rows;
 
 // What is made of distances: the largest, folded from 0 with NaN passed over, and how many are NaN. It is found of their squares, and a root is taken of the
 // largest alone.

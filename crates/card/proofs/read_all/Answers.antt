@@ -17,7 +17,7 @@ loop-init c = record {
 
 pub loop-preserved : goal.loop-preserved
 loop-preserved c =
-    let took = c.in-Some.ensures.took in
+    let took = rw c.if-is_none.ensures at c.read_some.ensures.took in
     let so_far = c.loop.invariant.read in record {
       held = search rules;
       room = c.read_some.auto.points ∙ c.loop.invariant.room;

@@ -15,10 +15,10 @@ loop-b-preserved c =
     let i = c.loop-b.b-index in
     let h = c.loop-b.invariant in
     let inside : i < length text = omega arith in record {
-      held = rw c.step-state.ensures.state (held_next state (get_or text i 0) h.held);
-      room = c.step-state.auto.points ∙ h.room;
-      state = rw c.step-state.ensures.state (sym (after_more state text i inside) ∙ h.state);
-      points = rw (c.step-state.ensures.state, c.step-state.ensures.points) (sym (kept_after-more state text c.loop-b.points i inside) ∙ h.points);
+      held = rw c.step-state.ensures (held_next state (get_or text i 0) h.held);
+      room = c.keep.auto.points ∙ h.room;
+      state = rw c.step-state.ensures (sym (after_more state text i inside) ∙ h.state);
+      points = rw (c.step-state.ensures, c.keep.ensures) (sym (kept_after-more state text c.loop-b.points i inside) ∙ h.points);
     }
 
 pub returns-clause-state : goal.returns-clause-state

@@ -1,5 +1,6 @@
 -- The columns are fitted over the rows' fit, which stays as it is. Assumes nothing.
 use Rattle.std.proofs.Common.{rules, ◌≡◌, refl, arith, Ok, Err}
+use Rattle.making.specs.declared.StandingFit.{StandingFit}
 use Rattle.grids.proofs.RoomLaws.{u_under, columns_asked, columns_within}
 use Rattle.grids.proofs.GridRunLaws.{refused, columns_fail, columns_stand, hands_grid}
 use Rattle.grids.proofs.fits.fit_columns.Goals as goal
@@ -33,5 +34,7 @@ invariant_of-made c = record { regions = c.make_direction.ensures.regions; stand
 pub returns-clause-hands : goal.returns-clause-hands
 returns-clause-hands c =
     let m : c.make_direction.result ≡ Ok c.in_ok-standing.standing = search rules in
-    hands_grid c.args.grid.shape c.args.rows _ c.requires.over.job.degree c.columns_job-job.ensures.degree
-    (columns_stand c.args.call c.requires.over c.columns_job-job.ensures (rw c.column_aim.ensures at c.make_direction.ensures) _ m) c.hand_both.ensures
+    let made : StandingFit =
+    record { job = c.columns_job-job.result; at = _; standing = c.in_ok-standing.standing; regions = c.make_direction.ensures.regions; stands = c.make_direction.ensures.standing c.in_ok-standing.standing m } in
+    hands_grid c.args.grid.shape c.args.rows made c.requires.over.job.degree c.columns_job-job.ensures.degree c.columns_job-job.ensures.lines
+    (columns_stand c.args.call c.requires.over c.columns_job-job.ensures (rw c.column_aim.ensures at c.make_direction.ensures) _ m) (rw (c.new.ensures, c.new-2.ensures) at c.hand_both.ensures)
