@@ -7,26 +7,25 @@ use Prim.Native.Nat.{ℕ, zero, suc, ◌+◌, ◌-◌, ◌<◌, ◌≤◌}
 use native.Mathlib.Nat.{zero-add, eq-or-lt_of_le, not-suc-le-zero}
 use native.Mathlib.Numerals.{add-one}
 use native.Mathlib.Omega.{arith}
-use borrow.Author.Tests.{lt-ltb, le-ltb}
-use lib.ListN.{length, get_or, set, take, replicate, length-set}
-use lib.Seq.{get_or-set_same, set-set}
+use borrow.Author.Tests.{lt-ltb, le-ltb, not-true, not-false}
+use lib.ListN.{length, set, take, replicate}
 use lib.Seq.{take-suc, take-length}
-use lib.Ieee.{Float, nan, eq}
+use lib.Ieee.{Float, nan, eq, ne}
 use Rattle.places.specs.Places.{laid, joined, count_below}
-use Rattle.places.proofs.PlaceLaws.{le-or-lt, laid_none, length-laid, laid0-at, laid0-more, laid0-next}
+use Rattle.places.proofs.PlaceLaws.{le-or-lt, laid_none, laid0-next}
 use Rattle.geometry.specs.Doubles.{at}
 use Rattle.knots.specs.Knots.{equal_from, run_length, run_start, distinct_knots, knot_at, multiplicity_at}
 
 -- one more place that equals x, and one that does not
-equal-more : (flat : List Float) (x : Float) (i c : ℕ) → 0 < c → eq x (at flat i) ≡ true → equal_from flat x i c ≡ 1 + equal_from flat x (i + 1) (c - 1)
-unfolding equal_from
+equal-more : (flat : List Float) (x : Float) (i c : ℕ) → 0 < c → ne x (at flat i) ≡ false → equal_from flat x i c ≡ 1 + equal_from flat x (i + 1) (c - 1)
+unfolding equal_from ne
 equal-more flat x i zero h e = absurd (not-suc-le-zero h)
-equal-more flat x i (suc c) h e = let d : suc c - 1 ≡ c = omega arith in rw (e, d)
+equal-more flat x i (suc c) h e = let d : suc c - 1 ≡ c = omega arith in rw (not-false (eq x (at flat i)) e, d)
 
-equal_stop : (flat : List Float) (x : Float) (i c : ℕ) → eq x (at flat i) ≡ false → equal_from flat x i c ≡ 0
-unfolding equal_from
+pub equal_stop : (flat : List Float) (x : Float) (i c : ℕ) → ne x (at flat i) ≡ true → equal_from flat x i c ≡ 0
+unfolding equal_from ne
 equal_stop flat x i zero e = refl
-equal_stop flat x i (suc c) e = rw e
+equal_stop flat x i (suc c) e = rw (not-true (eq x (at flat i)) e)
 
 equal-most : (flat : List Float) (x : Float) (i c : ℕ) → equal_from flat x i c ≤ c
 unfolding equal_from
@@ -83,7 +82,7 @@ distinct_is flat k e =
     (λ j h. lt-ltb _ (length flat) (omega (arith, start-rises flat j k (omega arith))))
     (λ j h. le-ltb _ (length flat) (omega (arith, start-rises flat k j h)))
 
--- ---- the runs, taken up value by value
+-- ---- the runs, listed one after the other
 
 -- k runs are listed, and the next one starts at place j
 pub record Closed (flat knots₀ knots : List Float) (mults₀ mults : List ℕ) (j k : ℕ) : Type 0 where
@@ -91,125 +90,43 @@ pub record Closed (flat knots₀ knots : List Float) (mults₀ mults : List ℕ)
   pub knots_are : knots ≡ laid 0 k (knot_at flat) knots₀
   pub mults_are : mults ≡ laid 0 k (multiplicity_at flat) mults₀
 
--- the runs up to run i are listed, run i with as many of its places as stand before place j, where it may go on
-pub record Open (flat knots₀ knots : List Float) (mults₀ mults : List ℕ) (j i : ℕ) : Type 0 where
-  pub before : run_start flat i < j
-  pub counted : multiplicity_at flat i ≡ (j - run_start flat i) + equal_from flat (knot_at flat i) j (length flat - j)
-  pub knots_are : knots ≡ laid 0 (i + 1) (knot_at flat) knots₀
-  pub mults_are : mults ≡ set (laid 0 i (multiplicity_at flat) mults₀) i (j - run_start flat i)
-
--- the first j values are taken up, in k runs
-abbrev pub Taken : List Float → List Float → List Float → List ℕ → List ℕ → ℕ → ℕ → Type 0
-Taken flat knots₀ knots mults₀ mults j k = ((k ≡ 0) × Closed flat knots₀ knots mults₀ mults j 0) ⊎ ((1 ≤ k) × Open flat knots₀ knots mults₀ mults j (k - 1))
-
-module _ (flat knots₀ knots : List Float) (mults₀ mults : List ℕ) (j : ℕ) where
-  -- the next run begins
-  begins : (k : ℕ) → Closed flat knots₀ knots mults₀ mults j k → j < length flat → Taken flat knots₀ (set knots k (at flat j)) mults₀ (set mults k 1) (j + 1) (k + 1)
-  unfolding run_length multiplicity_at knot_at
-  begins k c h =
-      let z : k + 1 - 1 ≡ k = omega arith in
-      let o : j + 1 - j ≡ 1 = omega arith in
-      let d : length flat - (j + 1) ≡ length flat - j - 1 = omega arith in
-      inr (
-        omega arith,
-        rw z (record {
-          before = rw c.here (omega arith);
-          counted = rw (c.here, o, d);
-          knots_are = laid0-next k (knot_at flat) knots₀ knots (at flat j) c.knots_are (rw c.here);
-          mults_are = rw (c.here, o, c.mults_are);
-        }),
-      )
-
-  module _ (i : ℕ) (o : Open flat knots₀ knots mults₀ mults j i) where
-    -- the last knot listed is that of the run
-    last : i < length knots → at knots i ≡ knot_at flat i
-    last h =
-        ap (λ (l : List Float). at l i) o.knots_are
-        ∙ laid0-at (i + 1) (knot_at flat) knots₀ i nan (omega arith) (omega (arith, ap length o.knots_are, length-laid 0 (i + 1) (knot_at flat) knots₀))
-
-    -- the run goes on
-    goes_on : i < length knots → i < length mults → j < length flat → eq (at knots i) (at flat j) ≡ true → Open flat knots₀ knots mults₀ (set mults i (get_or mults i 0 + 1)) (j + 1) i
-    goes_on h m l e =
-        let z : j - run_start flat i + 1 ≡ j + 1 - run_start flat i = omega (arith, o.before) in
-        let d : length flat - j - 1 ≡ length flat - (j + 1) = omega arith in
-        let more = rw d at (equal-more flat (knot_at flat i) j (length flat - j) (omega arith) (rw (last h) at e)) in
-        let value : get_or mults i 0 ≡ j - run_start flat i =
-        ap (λ (l : List ℕ). get_or l i 0) o.mults_are
-        ∙ get_or-set_same (laid 0 i (multiplicity_at flat) mults₀) i _ 0 (omega (arith, ap length o.mults_are, length-set (laid 0 i (multiplicity_at flat) mults₀) i (j - run_start flat i))) in
-        record {
-          before = omega (arith, o.before);
-          counted = omega (arith, o.counted, more, z);
-          knots_are = o.knots_are;
-          mults_are = rw (value, o.mults_are, set-set, z);
-        }
-
-    -- or it ends
-    ends : equal_from flat (knot_at flat i) j (length flat - j) ≡ 0 → Closed flat knots₀ knots mults₀ mults j (i + 1)
-    unfolding multiplicity_at
-    ends e =
-        let m : multiplicity_at flat i ≡ j - run_start flat i = omega (arith, o.counted) in
-        record {
-          here = start-more flat i ∙ omega (arith, m, o.before);
-          knots_are = o.knots_are;
-          mults_are = o.mults_are ∙ rw (← m) (sym (laid0-more i (multiplicity_at flat) mults₀));
-        }
-
-    ends_here : i < length knots → eq (at knots i) (at flat j) ≡ false → Closed flat knots₀ knots mults₀ mults j (i + 1)
-    ends_here h e = ends (equal_stop flat (knot_at flat i) j (length flat - j) (rw (last h) at e))
-
-    ends_last : length flat ≤ j → Closed flat knots₀ knots mults₀ mults j (i + 1)
-    unfolding equal_from
-    ends_last h = let z : length flat - j ≡ 0 = omega arith in ends (rw z)
-
-  module _ (k : ℕ) (t : Taken flat knots₀ knots mults₀ mults j k) where
-    -- one more value: it is in the run, or begins the next
-    pub taken_on : 0 < k → k ≤ length knots → k ≤ length mults → j < length flat → eq (at knots (k - 1)) (at flat j) ≡ true
-        → Taken flat knots₀ knots mults₀ (set mults (k - 1) (get_or mults (k - 1) 0 + 1)) (j + 1) k
-    taken_on p h m l e = ⊎_elim (λ (z, c). absurd (omega arith)) (λ (q, o). inr (q, goes_on (k - 1) o (omega arith) (omega arith) l e)) t
-
-    pub taken_next : k ≤ length knots → j < length flat → (0 < k → eq (at knots (k - 1)) (at flat j) ≡ false) → Taken flat knots₀ (set knots k (at flat j)) mults₀ (set mults k 1) (j + 1) (k + 1)
-    taken_next h l e = begins k (⊎_elim (λ (z, c). rw z c) (λ (q, o). let n : k - 1 + 1 ≡ k = omega arith in rw n at (ends_here (k - 1) o (omega arith) (e q))) t) l
-
-    -- no value is left
-    pub taken_all : length flat ≤ j → Closed flat knots₀ knots mults₀ mults j k
-    taken_all h = ⊎_elim (λ (z, c). rw z c) (λ (q, o). let n : k - 1 + 1 ≡ k = omega arith in rw n at (ends_last (k - 1) o h)) t
-
--- the same, with the length of the last run beside the list, and its knot
-abbrev pub Going : List Float → List Float → List Float → List ℕ → List ℕ → ℕ → ℕ → Float → ℕ → Type 0
-Going flat knots₀ knots mults₀ mults j k last run =
-    (k ≡ 0 → Taken flat knots₀ knots mults₀ mults j k) × (0 < k → Taken flat knots₀ knots mults₀ (set mults (k - 1) run) j k × (at knots (k - 1) ≡ last))
-
-module _ (flat knots₀ knots : List Float) (mults₀ mults : List ℕ) (j k : ℕ) where
-  -- the length is written
-  pub written : (last : Float) (run : ℕ) → Going flat knots₀ knots mults₀ mults j k last run → (mults' : List ℕ) → (k ≡ 0 → mults' ≡ mults) → (0 < k → mults' ≡ set mults (k - 1) run)
-      → Taken flat knots₀ knots mults₀ mults' j k
-  written last run g mults' none some =
-      ⊎_elim (λ (h : k ≤ 0). let z : k ≡ 0 = omega arith in rw (none z) (g.0 z)) (λ (h : 0 < k). rw (some h) (g.1 h).0) (le-or-lt k 0)
-
-  -- the run goes on
-  pub going_on : (last : Float) (run : ℕ) → Going flat knots₀ knots mults₀ mults j k last run → 0 < k → k ≤ length knots → k ≤ length mults → j < length flat → eq last (at flat j) ≡ true
-      → Going flat knots₀ knots mults₀ mults (j + 1) k last (run + 1)
-  going_on last run g p h m l e = (
-    λ z. absurd (omega arith),
-    λ q.
-        let value : get_or (set mults (k - 1) run) (k - 1) 0 ≡ run = get_or-set_same mults (k - 1) run 0 (omega arith) in
-        let same = (g.1 p).1 in
-        let on = taken_on flat knots₀ knots mults₀ (set mults (k - 1) run) j k (g.1 p).0 p h (omega (arith, length-set mults (k - 1) run)) l (ap (λ (x : Float). eq x (at flat j)) same ∙ e) in
-        (rw (value, set-set) at on, same),
-  )
-
-  -- or the next one begins
-  pub going_next : Taken flat knots₀ knots mults₀ mults j k → k < length knots → j < length flat → (0 < k → eq (at knots (k - 1)) (at flat j) ≡ false)
-      → Going flat knots₀ (set knots k (at flat j)) mults₀ mults (j + 1) (k + 1) (at flat j) 1
-  going_next t h l e = (
-    λ z. absurd (omega arith),
-    λ q. let z : k + 1 - 1 ≡ k = omega arith in rw z (rw z at (taken_next flat knots₀ knots mults₀ mults j k t (omega arith) l e), get_or-set_same knots k (at flat j) nan h),
-  )
-
--- no value is taken up
-pub taken_none : (flat knots : List Float) (mults : List ℕ) → Taken flat knots knots mults mults 0 0
+-- no run is listed
+pub closed_none : (flat knots : List Float) (mults : List ℕ) → Closed flat knots knots mults mults 0 0
 unfolding run_start
-taken_none flat knots mults = inl (refl, record { here = refl; knots_are = sym (laid_none 0 _ knots); mults_are = sym (laid_none 0 _ mults) })
+closed_none flat knots mults = record { here = refl; knots_are = sym (laid_none 0 _ knots); mults_are = sym (laid_none 0 _ mults) }
+
+-- The run that starts at place j has the places before place i, and those from i on that go on with it.
+abbrev pub RunsTo : List Float → ℕ → ℕ → Type 0
+RunsTo flat j i = run_length flat j ≡ (i - j) + equal_from flat (at flat j) i (length flat - i)
+
+module _ (flat : List Float) (j i : ℕ) where
+  pub runs_on : j < i → i < length flat → RunsTo flat j i → ne (at flat j) (at flat i) ≡ false → RunsTo flat j (i + 1)
+  runs_on h l r e =
+      let d : length flat - i - 1 ≡ length flat - (i + 1) = omega arith in
+      let more = rw d at (equal-more flat (at flat j) i (length flat - i) (omega arith) e) in
+      omega (arith, r, more)
+
+  pub runs_until : RunsTo flat j i → ne (at flat j) (at flat i) ≡ true → run_length flat j ≡ i - j
+  runs_until r e = omega (arith, r, equal_stop flat (at flat j) i (length flat - i) e)
+
+  pub runs_out : RunsTo flat j i → length flat ≤ i → run_length flat j ≡ i - j
+  unfolding equal_from
+  runs_out r h = let z : length flat - i ≡ 0 = omega arith in let e : equal_from flat (at flat j) i (length flat - i) ≡ 0 = rw z in omega (arith, r, e)
+
+-- its first place is its own
+pub runs_from : (flat : List Float) (j : ℕ) → RunsTo flat j (j + 1)
+unfolding run_length
+runs_from flat j = let d : length flat - (j + 1) ≡ length flat - j - 1 = omega arith in rw d (omega arith)
+
+-- one more is listed
+pub closed_next : (flat knots₀ knots : List Float) (mults₀ mults : List ℕ) (j k n : ℕ) → Closed flat knots₀ knots mults₀ mults j k → run_length flat j ≡ n
+    → Closed flat knots₀ (set knots k (at flat j)) mults₀ (set mults k n) (j + n) (k + 1)
+unfolding knot_at multiplicity_at
+closed_next flat knots₀ knots mults₀ mults j k n c r = record {
+  here = start-more flat k ∙ rw (c.here, r);
+  knots_are = laid0-next k (knot_at flat) knots₀ knots (at flat j) c.knots_are (rw c.here);
+  mults_are = laid0-next k (multiplicity_at flat) mults₀ mults n c.mults_are (rw (c.here, r));
+}
 
 -- ---- the runs, one after the other, are the list, where the values of a run are the same
 

@@ -6,25 +6,21 @@ pub fn compress_knots(flat: &[f64], knots: &mut [f64], mults: &mut [u32]) -> usi
     requires { HasRoom flat.now knots.old mults.old }
     ensures { Compressed flat.now knots.old knots.new mults.old mults.new result }
 {
-    // k counts the knots that were written, which are fewer than those that were read; the length of a run is written where the run ends
+    // k runs are written, and the next begins at start
     let mut k = 0;
-    let mut last = 0.0;
-    let mut run = 0;
-    for u in flat {
-        if 0 < k && last == *u {
-            run += 1;
-        } else {
-            if 0 < k {
-                mults[k - 1] = run;
-            }
-            last = *u;
-            run = 1;
-            knots[k] = last;
+    let mut start = 0;
+    for i in 1..flat.len() {
+        if flat[start] != flat[i] {
+            knots[k] = flat[start];
+            mults[k] = (i - start) as u32;
             k += 1;
+            start = i;
         }
     }
-    if 0 < k {
-        mults[k - 1] = run;
+    if start < flat.len() {
+        knots[k] = flat[start];
+        mults[k] = (flat.len() - start) as u32;
+        k += 1;
     }
     k
 }

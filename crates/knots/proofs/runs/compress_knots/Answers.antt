@@ -1,51 +1,52 @@
--- The values passed are taken up in runs, the last of which may go on and has its length beside the lists. Assumes nothing.
-use Rattle.std.proofs.Common.{◌∙◌, sym, ap, arith}
-use lib.Ieee.{Float, eq}
-use Rattle.geometry.specs.Doubles.{at}
-use Rattle.knots.proofs.RunLaws.{Taken, taken_none, taken_all, written, going_on, going_next, distinct_is}
+-- k runs are listed, and the next starts at `start` and has the values passed from there on. Assumes nothing.
+use Rattle.std.proofs.Common.{◌+◌, ◌-◌, ◌≡◌, ◌∙◌, sym, arith, length}
+use Rattle.knots.specs.Knots.{run_length}
+use Rattle.knots.proofs.RunLaws.{closed_none, closed_next, runs_from, runs_on, runs_until, runs_out, distinct_is}
 use Rattle.knots.proofs.runs.compress_knots.Goals as goal
-use Rattle.knots.proofs.runs.compress_knots.Goals.{then-k-gt0+then-last-u, else-k-gt0, else-k-gt0-via-then-k-gt0+else-last-u, else-k-gt0-via-else-k-gt0, then-k-gt0-2, else-k-gt0-2}
+use Rattle.knots.proofs.runs.compress_knots.Goals.{then-flat-start, else-flat-start}
 
-pub loop-u-init : goal.loop-u-init
-loop-u-init c = (omega arith, omega arith, (λ z. taken_none _ _ _, λ p. absurd (omega arith)))
+pub loop-i-init : goal.loop-i-init
+loop-i-init c = (omega arith, omega arith, omega arith, closed_none _ _ _, runs_from c.args.flat.now 0)
 
-pub loop-u-preserved : goal.loop-u-preserved
-loop-u-preserved c =
-    let l = c.loop-u in
-    let going = l.invariant.2 in
-    elim c.if-k-gt0.branch [
-      | then-k-gt0+then-last-u w ↦
-          rw (w.k-is, w.knots-is, w.mults-is, w.last-is, w.run-is) (
+pub loop-i-preserved : goal.loop-i-preserved
+loop-i-preserved c =
+    let l = c.loop-i in
+    let closed = l.invariant.3 in
+    let run = l.invariant.4 in
+    elim c.if-flat-start.branch [
+      | then-flat-start w ↦
+          let ends = runs_until c.args.flat.now l.start l.i run w.if-flat-start.true in
+          let there : l.start + (l.i - l.start) ≡ l.i = omega arith in
+          rw (w.k-is, w.knots-is, w.mults-is, w.start-is) (
             omega arith,
             omega arith,
-            going_on _ _ l.knots _ l.mults l.u-index l.k l.last l.run going w.if-k-gt0.true (omega arith) (omega arith) c.loop-u-test.true w.if-last-u.true,
+            omega arith,
+            rw there at (closed_next _ _ l.knots _ l.mults l.start l.k (l.i - l.start) closed ends),
+            runs_from c.args.flat.now l.i,
           )
-      | else-k-gt0 w ↦
-          let t : Taken c.args.flat.now c.args.knots.now l.knots c.args.mults.now w.if-k-gt0-2.mults l.u-index l.k = elim w.if-k-gt0-2.branch [
-            | then-k-gt0-2 w' ↦ written _ _ l.knots _ l.mults l.u-index l.k l.last l.run going w.if-k-gt0-2.mults (λ z. absurd (omega arith)) (λ p. w'.mults-is)
-            | else-k-gt0-2 w' ↦ written _ _ l.knots _ l.mults l.u-index l.k l.last l.run going w.if-k-gt0-2.mults (λ z. w'.mults-is) (λ p. absurd (omega arith))
-          ] in
-          rw (w.k-is, w.knots-is, w.mults-is, w.last-is, w.run-is) (
+      | else-flat-start w ↦
+          rw (w.k-is, w.knots-is, w.mults-is, w.start-is) (
             omega arith,
             omega arith,
-            going_next _ _ l.knots _ w.if-k-gt0-2.mults l.u-index l.k t (omega arith) c.loop-u-test.true
-                (elim w.else-k-gt0.branch [
-                  | else-k-gt0-via-then-k-gt0+else-last-u w' ↦ λ p. ap (λ (x : Float). eq x (at c.args.flat.now l.u-index)) (going.1 p).1 ∙ w'.if-last-u.false
-                  | else-k-gt0-via-else-k-gt0 w' ↦ λ p. absurd (omega arith)
-                ]),
+            omega arith,
+            closed,
+            runs_on c.args.flat.now l.start l.i (omega arith) c.loop-i-test.true run w.if-flat-start.false,
           )
     ]
 
-pub returns-then-k-gt0-3 : goal.returns-then-k-gt0-3
-returns-then-k-gt0-3 c =
-    let l = c.loop-u in
-    let t = taken_all _ _ l.knots _ _ l.u-index l.k (l.invariant.2.1 c.if-k-gt0-3.true).0 (omega arith) in
-    let d = distinct_is c.args.flat.now l.k (t.here ∙ omega arith) in
+pub returns-then-start-flat : goal.returns-then-start-flat
+returns-then-start-flat c =
+    let l = c.loop-i in
+    let flat = c.args.flat.now in
+    let ends = runs_out flat l.start l.i l.invariant.4 (omega arith) in
+    let all : run_length flat l.start ≡ length flat - l.start = omega (arith, ends) in
+    let t = closed_next _ _ l.knots _ l.mults l.start l.k (length flat - l.start) l.invariant.3 all in
+    let d = distinct_is flat (l.k + 1) (t.here ∙ omega arith) in
     record { count = sym d; values = rw d t.knots_are; multiplicities = rw d t.mults_are }
 
-pub returns-else-k-gt0-3 : goal.returns-else-k-gt0-3
-returns-else-k-gt0-3 c =
-    let l = c.loop-u in
-    let t = taken_all _ _ l.knots _ l.mults l.u-index l.k (l.invariant.2.0 (omega arith)) (omega arith) in
+pub returns-else-start-flat : goal.returns-else-start-flat
+returns-else-start-flat c =
+    let l = c.loop-i in
+    let t = l.invariant.3 in
     let d = distinct_is c.args.flat.now l.k (t.here ∙ omega arith) in
     record { count = sym d; values = rw d t.knots_are; multiplicities = rw d t.mults_are }
