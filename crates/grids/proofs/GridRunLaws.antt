@@ -21,14 +21,14 @@ use Rattle.fitting.specs.declared.Job.{Job}
 use Rattle.fitting.specs.declared.room.Regions.{Regions}
 use Rattle.fitting.specs.Within.{Marked}
 use Rattle.fitting.specs.Marks.{unmarked, fit_of}
-use Rattle.fitting.specs.Jobs.{direction_of, candidate_in}
+use Rattle.fitting.specs.Jobs.{direction_of, candidate_in, poles_in}
 use Rattle.making.specs.declared.Standing.{Standing}
 use Rattle.making.specs.declared.StandingFit.{StandingFit}
 use Rattle.making.specs.Results.{FitResult, fit_to}
 use Rattle.making.specs.Runs.{Made, made_in, marked_as, standing_in, StandsIn, Makes}
 use Rattle.grids.specs.declared.GridFit.{GridFit}
 use Rattle.grids.specs.Grids.{GridResult, grid_refused, grid_accepted, along_u, row_aim, column_aim, beside_rows, after_rows, fit_grid_by, grid_answer_of, surface_poles, grid_handed, HandsOutGrid, GridAnswer}
-use Rattle.grids.specs.GridRuns.{stood, count_of, columns_over, TableStands, RowsJob, OverRows, ColumnsJob, placed, HandsBoth}
+use Rattle.grids.specs.GridRuns.{stood, count_of, columns_over, TableStands, RowsJob, OverRows, ColumnsJob, placed, HandsDirection, HandsBoth, HandsStood, HandsBothStood}
 use Rattle.grids.proofs.SurfaceLaws.{length-transposed}
 use Rattle.grids.proofs.FitLaws.{stood-flat, stood-poles, stood-count, handed_back}
 use Rattle.grids.proofs.DirectionLaws.{rows_direction, columns_direction}
@@ -102,31 +102,46 @@ module _ (call : SurfaceCall) {g : Grid} {rows : StandingFit} {us : List Float} 
 fits-same : (a a' b b' : Fit) → a ≡ a' → b ≡ b' → ◌≡◌ {A = GridFit} (record { u = a; v = b }) (record { u = a'; v = b' })
 fits-same a a' b b' e f = rw (e, f)
 
-module _ (h : Shape) (rows columns : StandingFit) (v_degree : rows.job.degree ≡ h.v) (u_degree : columns.job.degree ≡ h.u) (lines : columns.job.lines.lines ≡ count_of rows) where
-  abbrev poles_on : ℕ → List Float
-  poles_on n = transposed (count_of rows) (count_of columns) (take (3 * (n * count_of columns)) columns.at.now.fit.poles.now)
+-- what is handed out of fits, where they stand
+pub stood_direction : (x : StandingFit) {flat flat' knots knots' : List Float} {mults mults' : List ℕ} {r : Fit} → HandsDirection (placed x) flat flat' knots knots' mults mults' r
+    → HandsStood x flat flat' knots knots' mults mults' r
+stood_direction x h = record { answer = h.answer ∙ sym (handed_back x); poles = h.poles; handed = h.handed }
 
-  surface_is : surface_poles h (unmarked (stood columns)) (unmarked (stood rows)) ≡ poles_on (count_of rows)
+pub stood_both : (rows columns : StandingFit) → columns.job.lines.lines ≡ count_of rows → {o o' : GridOutput} {r : GridFit} → HandsBoth (placed rows) (placed columns) o o' r
+    → HandsBothStood rows columns o o' r
+stood_both rows columns lines {o} {o'} {r} h = record {
+  u = stood_direction columns h.u;
+  v = stood_direction rows h.v;
+  surface =
+      h.surface
+      ∙ ap
+      (λ (n : ℕ). laid 0 (3 * (count_of rows * count_of columns)) (at (transposed (count_of rows) (count_of columns) (take (3 * (n * count_of columns)) columns.at.now.fit.poles.now))) o.poles.now)
+      (sym lines);
+  same = h.same;
+}
+
+module _ (h : Shape) (rows columns : StandingFit) (v_degree : rows.job.degree ≡ h.v) (u_degree : columns.job.degree ≡ h.u) where
+  surface_is : surface_poles h (unmarked (stood columns)) (unmarked (stood rows)) ≡ transposed (count_of rows) (count_of columns) (poles_in columns.job columns.at.now)
   unfolding surface_poles
-  surface_is = rw (← v_degree, ← u_degree, stood-count rows, stood-count columns, stood-poles columns) (ap poles_on lines)
+  surface_is = rw (← v_degree, ← u_degree, stood-count rows, stood-count columns, stood-poles columns)
 
-  pub hands_grid : {fit : GridResult} {o o' : GridOutput} {r : GridFit} → fit ≡ grid_accepted (stood columns) (stood rows) → HandsBoth (placed rows) (placed columns) o o' r
+  pub hands_grid : {fit : GridResult} {o o' : GridOutput} {r : GridFit} → fit ≡ grid_accepted (stood columns) (stood rows) → HandsBothStood rows columns o o' r
       → HandsOutGrid h fit (grid_lent_with o [] []) (grid_lent_with o' [] []) (Ok r)
   unfolding grid_answer_of grid_handed
   hands_grid {fit} {o} {o'} {r} e out =
       let u : Marked = stood columns in
       let v : Marked = stood rows in
-      let s : List Float = poles_on (count_of rows) in
+      let s : List Float = transposed (count_of rows) (count_of columns) (poles_in columns.job columns.at.now) in
       subst (λ (f : GridResult). HandsOutGrid h f (grid_lent_with o [] []) (grid_lent_with o' [] []) (Ok r)) (sym e)
       (record {
         answer =
             ap Ok
             (fits-same r.u (fit_of h.u u) r.v (fit_of h.v v)
-            (out.u.answer ∙ sym (handed_back columns) ∙ ap (λ (d : ℕ). fit_of d u) u_degree)
-            (out.v.answer ∙ sym (handed_back rows) ∙ ap (λ (d : ℕ). fit_of d v) v_degree));
+            (out.u.answer ∙ ap (λ (d : ℕ). fit_of d u) u_degree)
+            (out.v.answer ∙ ap (λ (d : ℕ). fit_of d v) v_degree));
         poles =
             out.surface
-            ∙ ap (λ (k : ℕ). laid 0 k (at s) o.poles.now) (sym (length-transposed (count_of rows) (count_of columns) _))
+            ∙ ap (λ (k : ℕ). laid 0 k (at s) o.poles.now) (sym (length-transposed (count_of rows) (count_of columns) (poles_in columns.job columns.at.now)))
             ∙ ap (λ (l : List Float). laid 0 (length l) (at l) o.poles.now) (sym surface_is);
         u_flat = out.u.handed.for_flat ∙ ap (λ (l : List Float). laid 0 (length l) (at l) o.uflat.now) (sym (stood-flat columns));
         u_knots = out.u.handed.runs.values ∙ ap (λ (l : List Float). laid 0 (distinct_knots l) (knot_at l) o.uknots.now) (sym (stood-flat columns));
@@ -135,3 +150,8 @@ module _ (h : Shape) (rows columns : StandingFit) (v_degree : rows.job.degree �
         v_knots = out.v.handed.runs.values ∙ ap (λ (l : List Float). laid 0 (distinct_knots l) (knot_at l) o.vknots.now) (sym (stood-flat rows));
         v_mults = out.v.handed.runs.multiplicities ∙ ap (λ (l : List Float). laid 0 (distinct_knots l) (multiplicity_at l) o.vmults.now) (sym (stood-flat rows));
       })
+
+  -- the same of both as they are placed, where the columns have as many lines as the rows' fit has poles
+  pub hands_placed : columns.job.lines.lines ≡ count_of rows → {fit : GridResult} {o o' : GridOutput} {r : GridFit} → fit ≡ grid_accepted (stood columns) (stood rows)
+      → HandsBoth (placed rows) (placed columns) o o' r → HandsOutGrid h fit (grid_lent_with o [] []) (grid_lent_with o' [] []) (Ok r)
+  hands_placed lines e out = hands_grid e (stood_both rows columns lines out)

@@ -24,7 +24,7 @@ use Rattle.fitting.specs.declared.Kind.TheVariants.{Ladder, Rows, Columns}
 use Rattle.fitting.specs.declared.Surface.{Surface}
 use Rattle.fitting.specs.declared.room.Regions.{Regions}
 use Rattle.fitting.specs.Jobs.{HasRegions, candidate_in, poles_in}
-use Rattle.fitting.specs.Marks.{unmarked}
+use Rattle.fitting.specs.Marks.{unmarked, fit_of}
 use Rattle.fitting.specs.Within.{Marked}
 use Rattle.making.specs.declared.StandingFit.{StandingFit}
 use Rattle.making.specs.Results.{fit_to}
@@ -171,4 +171,18 @@ pub record HandsBoth (rows columns : Placed) (o o' : GridOutput) (r : GridFit) :
   pub surface :
       o'.poles.now ≡ laid 0 (pole_places rows columns)
       (at (transposed (count_in rows) (count_in columns) (take (pole_places rows columns) columns.at.now.fit.poles.now))) o.poles.now
+  pub same : SameGridOutput o o'
+
+-- The same of fits that stand: a direction's fit is what is answered of the one that stands there, and the surface's poles are the columns' in all their lines.
+pub record HandsStood (x : StandingFit) (flat flat' knots knots' : List Float) (mults mults' : List ℕ) (r : Fit) : Type 0 where
+  pub answer : r ≡ fit_of x.job.degree (stood x)
+  pub poles : r.poles ≡ count_of x
+  pub handed : HandedKnots (flat_of x.at.now.knots) flat flat' knots knots' mults mults' (distinct_knots (flat_of x.at.now.knots))
+
+pub record HandsBothStood (rows columns : StandingFit) (o o' : GridOutput) (r : GridFit) : Type 0 where
+  pub u : HandsStood columns o.uflat.now o'.uflat.now o.uknots.now o'.uknots.now o.umults.now o'.umults.now r.u
+  pub v : HandsStood rows o.vflat.now o'.vflat.now o.vknots.now o'.vknots.now o.vmults.now o'.vmults.now r.v
+  pub surface :
+      o'.poles.now ≡ laid 0 (3 * (count_of rows * count_of columns))
+      (at (transposed (count_of rows) (count_of columns) (poles_in columns.job columns.at.now))) o.poles.now
   pub same : SameGridOutput o o'

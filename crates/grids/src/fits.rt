@@ -1,11 +1,12 @@
 // A grid that passed its checks: both directions' parameters, the rows' fit, and the columns' fit over it.
 ghost use Rattle.std.specs.Prelude.{◌≡◌, ◌≤◌, ◌<◌, [], length};
 ghost use Rattle.tables.specs.Directions.{row_point, column_point};
+ghost use Rattle.tables.specs.Layout.{read_of};
 ghost use Rattle.knots.specs.OnLines.{on_lines};
 ghost use Rattle.checks.specs.GridChecks.{GridShaped, GridRoomy, grid_room_of};
 ghost use Rattle.checks.specs.Slices.{grid_in, grid_lent_with, SameGridOutput};
 ghost use Rattle.grids.specs.Grids.{fit_grid_by, grid_fit, HandsOutGrid};
-ghost use Rattle.grids.specs.GridRuns.{columns_over, RowsJob, ColumnsJob, OverRows, HasParams, HasGridOutput, ColumnsRoom, RowsRoom, TableStands};
+ghost use Rattle.grids.specs.GridRuns.{columns_over, RowsJob, OnSurface, ColumnsJob, OverRows, HasParams, HasGridOutput, ColumnsRoom, RowsRoom, TableStands};
 ghost use Rattle.fitting.specs.Jobs.{HasRegions, HasKnots};
 
 use crate::GridFit;
@@ -84,7 +85,8 @@ fn columns_job<'a, 'b>(
 ) -> Job<'a, 'a, 'a, 'a>
     requires over { OverRows grid rows }
     requires params { (length u_params.now ≡ grid.shape.rows) × (grid.shape.u < grid.shape.rows) }
-    ensures { ColumnsJob grid.entry rows.entry u_params.now result }
+    ensures job { ColumnsJob grid.entry rows.entry u_params.now result }
+    ensures read { OnSurface result.kind (λ s. s.across ≡ read_of rows.entry.at.now.fit.table) }
 {
     let shape = grid.shape;
     let below = rows.at;

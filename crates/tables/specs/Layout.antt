@@ -15,6 +15,10 @@ table_in t = record { degree = t.degree; firsts = t.firsts.now; values = t.value
 abbrev pub Reads : TablePlaces → Table → Type 0
 Reads p t = (t.degree ≡ p.degree) × (t.poles ≡ p.poles) × (t.firsts.now ≡ p.firsts.now) × (t.values.now ≡ p.values.now)
 
+-- the table as it is read in its own places
+abbrev pub read_of : TablePlaces → Table
+read_of p = record { degree = p.degree; poles = p.poles; firsts = record { ref_ptr = p.firsts.ref_ptr; now = p.firsts.now }; values = record { ref_ptr = p.values.ref_ptr; now = p.values.now } }
+
 -- Two parameters or more, whose first poles leave room for the degree + 1 poles of each row among m.
 pub record TableFits (degree m : ℕ) (firsts : List ℕ) (values : List Float) : Type 0 where
   pub low : 1 ≤ degree

@@ -64,7 +64,7 @@ pub struct Row<'a> {
 
 impl TablePlaces<'_> {
     ghost use Rattle.std.specs.Prelude.{◌≡◌};
-    ghost use Rattle.tables.specs.Layout.{FillsTable, Filled, Reads};
+    ghost use Rattle.tables.specs.Layout.{FillsTable, Filled, read_of};
 
     // The table of these flat knots at these parameters, in its place.
     pub fn fill(&mut self, flat: &[f64], params: &[f64])
@@ -79,7 +79,7 @@ impl TablePlaces<'_> {
 
     // The table that stands there.
     pub fn table(&self) -> Table<'_>
-        ensures { Reads self.now result }
+        ensures { result ≡ read_of self.now }
     {
         Table {
             degree: self.degree,
@@ -90,7 +90,7 @@ impl TablePlaces<'_> {
     }
 }
 
-impl Table<'_> {
+impl<'a> Table<'a> {
     ghost use Rattle.std.specs.Prelude.{◌≡◌, ◌+◌, ◌*◌, ◌≤◌, ◌<◌, length, get_or};
     ghost use Rattle.places.specs.Regions.{part};
     ghost use Rattle.tables.specs.BasisTable.{table_point};
@@ -103,7 +103,7 @@ impl Table<'_> {
         self.firsts.len()
     }
 
-    pub fn row(&self, k: usize) -> Row<'_>
+    pub fn row(&self, k: usize) -> Row<'a>
         requires { HasRow self.now k }
         ensures place { (result.degree ≡ self.now.degree) × (result.first ≡ get_or self.now.firsts.now k 0) }
         ensures values { result.values.now ≡ part (k * (self.now.degree + 1)) (k * (self.now.degree + 1) + (self.now.degree + 1)) self.now.values.now }

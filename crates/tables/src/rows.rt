@@ -19,10 +19,12 @@ impl<'a> BasisRows<'a> {
         BasisRows { flat, degree, span }
     }
 
-    // The same at the span that holds t, which is at or after the parameter that the span was found for.
+    // The same at the span that holds t, which is at or after the parameter that the span was found for; from there the search can go on.
+    #[tactic(auto, using(bspline::proofs::SpanLaws::span_fits))]
     pub fn at(self, t: f64) -> BasisRows<'a>
         requires { SpanFits self.flat.now self.degree self.span }
-        ensures { result ≡ rows_of self.entry.flat self.entry.degree (span_on self.entry.flat.now self.entry.degree self.entry.span t) }
+        ensures moved { result ≡ rows_of self.entry.flat self.entry.degree (span_on self.entry.flat.now self.entry.degree self.entry.span t) }
+        ensures fits { SpanFits result.flat.now result.degree result.span }
     {
         let span = bspline::spans::advance(self.flat, self.degree, self.span, t);
         BasisRows {
