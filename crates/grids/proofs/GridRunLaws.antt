@@ -1,8 +1,8 @@
 -- The rows' fit and the columns' over it, as they stand in their regions, are the definition's, and so is what is handed out of them. Assumes nothing.
 use mathlib.Core.Path.{◌≡◌, refl, sym, ◌∙◌, ap, subst}
 use mathlib.Core.List.{List}
-use Prim.Native.Nat.{ℕ, ◌-◌, ◌*◌}
-use lib.ListN.{length, take}
+use Prim.Native.Nat.{ℕ, ◌-◌}
+use lib.ListN.{length}
 use lib.Ieee.{Float}
 use Rattle.std.specs.Prelude.{[], Ok, Err}
 use Rattle.places.specs.Places.{laid}
@@ -112,11 +112,7 @@ pub stood_both : (rows columns : StandingFit) → columns.job.lines.lines ≡ co
 stood_both rows columns lines {o} {o'} {r} h = record {
   u = stood_direction columns h.u;
   v = stood_direction rows h.v;
-  surface =
-      h.surface
-      ∙ ap
-      (λ (n : ℕ). laid 0 (3 * (count_of rows * count_of columns)) (at (transposed (count_of rows) (count_of columns) (take (3 * (n * count_of columns)) columns.at.now.fit.poles.now))) o.poles.now)
-      (sym lines);
+  surface = rw lines h.surface;
   same = h.same;
 }
 

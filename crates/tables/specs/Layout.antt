@@ -1,5 +1,6 @@
 -- How a basis table stands in its slices. Definitions only.
 use Rattle.std.specs.Prelude.{◌≡◌, ℕ, List, ◌+◌, ◌-◌, ◌*◌, ◌≤◌, ◌<◌, length, get_or, Float}
+use denote.Ref.{as_bor}
 use Rattle.tables.specs.declared.basis_table.Table.{Table}
 use Rattle.tables.specs.declared.basis_table.TablePlaces.{TablePlaces}
 use Rattle.tables.specs.BasisTable.{BasisTable, basis_table}
@@ -17,7 +18,7 @@ Reads p t = (t.degree ≡ p.degree) × (t.poles ≡ p.poles) × (t.firsts.now �
 
 -- the table as it is read in its own places
 abbrev pub read_of : TablePlaces → Table
-read_of p = record { degree = p.degree; poles = p.poles; firsts = record { ref_ptr = p.firsts.ref_ptr; now = p.firsts.now }; values = record { ref_ptr = p.values.ref_ptr; now = p.values.now } }
+read_of p = record { degree = p.degree; poles = p.poles; firsts = as_bor p.firsts; values = as_bor p.values }
 
 -- Two parameters or more, whose first poles leave room for the degree + 1 poles of each row among m.
 pub record TableFits (degree m : ℕ) (firsts : List ℕ) (values : List Float) : Type 0 where
